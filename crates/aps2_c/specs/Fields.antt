@@ -1,0 +1,77 @@
+-- The eight numbers by which C names an instruction: op code (15 for NOOP), engine select, write flag, then the table's fields
+-- left to right (RETURN and LOAD_CMP: the payload; WAIT and SYNC: none), and zeros after.
+use mathlib.Core.Path.{_≡_}
+use Prim.Native.Nat.{ℕ, zero, suc}
+use mathlib.Core.Bool.{Bool, false, _||_, _&&_}
+use mathlib.Core.List.{List, [], _∷_}
+use lib.Dec.{eqb, leb}
+use lib.ListN.{getD, length}
+use Rattle.instruction.specs.Bits.{pick, allFit}
+use Rattle.instruction.specs.Table.{engineSelect, writeFlag, codeOf, valuesOf, bodyOf}
+use Rattle.instruction.specs.Form.{filled}
+use Rattle.instruction.specs.declared.Instruction.{Instruction}
+use Rattle.instruction.specs.declared.Body.{Body}
+use Rattle.reader.specs.Reading.{numberOf}
+use Rattle.reader.specs.declared.Reading.{Reading}
+use Rattle.reader.specs.declared.Reading.the-variants.{Accepted, Refused}
+use Rattle.writer.specs.Writing.{writtenOf}
+use Rattle.writer.specs.declared.Written.{Written}
+
+-- ---- reading
+
+-- "WAIT and SYNC: none": their op is their own
+abbrev pub isOwn : ℕ → Bool
+isOwn code = eqb code 2 || eqb code 9
+
+-- n numbers, zeros after those given
+abbrev pub paddedTo : ℕ → List ℕ → List ℕ
+paddedTo zero vs = []
+paddedTo (suc n) [] = 0 ∷ paddedTo n []
+paddedTo (suc n) (v ∷ vs) = v ∷ paddedTo n vs
+
+abbrev pub shownOf : Body → List ℕ
+shownOf b = pick (isOwn (codeOf b)) [] (valuesOf b)
+
+abbrev pub fieldsOf : Instruction → List ℕ
+fieldsOf i = codeOf (i .body) ∷ i .engine ∷ i .write ∷ paddedTo 5 (shownOf (i .body))
+
+-- the fields of a reading; "A refused word leaves zeros"
+abbrev pub told : Reading → List ℕ
+told (Accepted i) = fieldsOf i
+told (Refused r) = paddedTo 8 []
+
+-- what `aps2_read` answers
+pub record Read (reading : Reading) (r : ℕ) (fs : List ℕ) : Type 0 where
+  pub number : r ≡ numberOf reading
+  pub fields : fs ≡ told reading
+
+-- ---- writing
+
+abbrev pub isName : ℕ → Bool
+isName code = leb code 12 || eqb code 15
+
+-- so far, or a number past the first n is not zero; k numbers went before
+abbrev pub filledPast : Bool → ℕ → ℕ → List ℕ → Bool
+filledPast sofar n k [] = sofar
+filledPast sofar n k (v ∷ vs) = filledPast (sofar || (leb n k && filled v)) n (suc k) vs
+
+abbrev pub valuesAsked : List ℕ → List ℕ
+valuesAsked fs = getD fs 3 0 ∷ getD fs 4 0 ∷ getD fs 5 0 ∷ getD fs 6 0 ∷ getD fs 7 0 ∷ []
+
+abbrev pub asked : List ℕ → Instruction
+asked fs = record { engine = getD fs 1 0; write = getD fs 2 0; body = bodyOf (getD fs 0 0) (valuesAsked fs) }
+
+abbrev pub refusedBy : ℕ → Written
+refusedBy number = record { number = number; word = 0 }
+
+-- "a code that is none is 10; anything but zero past the fields its name has is 23, and 23 is tested first"
+unfoldable pub wishOf : List ℕ → Written
+wishOf fs =
+    pick (filledPast false (length (shownOf (asked fs .body))) 0 (valuesAsked fs)) (refusedBy 23)
+    (pick (isName (getD fs 0 0)) (writtenOf (asked fs))
+    (pick (allFit (engineSelect ∷ writeFlag ∷ []) (getD fs 1 0 ∷ getD fs 2 0 ∷ [])) (refusedBy 10) (refusedBy 23)))
+
+-- what `aps2_write` answers
+pub record Wrote (written : Written) (r : ℕ) (ws : List ℕ) : Type 0 where
+  pub number : r ≡ written .number
+  pub word : ws ≡ written .word ∷ []

@@ -1,0 +1,191 @@
+// The C interface: what `include/aps2.h` declares. Each function takes its buffers apart and calls the library.
+// Nothing is kept, nothing is allocated, and nothing is read past what is lent.
+ghost use mathlib.Core.Path.{_≡_};
+ghost use mathlib.Core.Bool.{false};
+ghost use lib.ListN.{length};
+ghost use Rattle.instruction.specs.Table.{bodyOf};
+ghost use Rattle.reader.specs.Reading.{readingOf};
+ghost use Rattle.aps2_c.specs.Fields.{shownOf, fieldsOf, Read, isName, filledPast, valuesAsked, wishOf, Wrote};
+use instruction::Body;
+use instruction::Comparison;
+use instruction::Ignored;
+use instruction::Instruction;
+use instruction::MarkerFields;
+use instruction::ModulatorFields;
+use instruction::QuadSamples;
+use instruction::Refusal;
+use instruction::Repeats;
+use instruction::WaveformFields;
+use instruction::WordAddress;
+use reader::Reading;
+use reader::read;
+use writer::Written;
+use writer::write;
+
+fn fields_of(i: Instruction) -> [u64; 8]
+    ensures { λ r. ⌜ r ≡ fieldsOf i ⌝ }
+{
+    let body = i.body;
+    let e = i.engine;
+    let w = i.write;
+    match body {
+        Body::Waveform(f) => [Body::WAVEFORM, e, w, f.op, f.ta, f.count.0, f.address.0, 0],
+        Body::Marker(f) => [
+            Body::MARKER,
+            e,
+            w,
+            f.op,
+            f.transition,
+            f.state,
+            f.count.0,
+            0,
+        ],
+        Body::Wait => [Body::WAIT, e, w, 0, 0, 0, 0, 0],
+        Body::LoadRepeat(n) => [Body::LOAD_REPEAT, e, w, n.0, 0, 0, 0, 0],
+        Body::Repeat(a) => [Body::REPEAT, e, w, a.0, 0, 0, 0, 0],
+        Body::Cmp(x) => [Body::CMP, e, w, x.code, x.mask, 0, 0, 0],
+        Body::Goto(a) => [Body::GOTO, e, w, a.0, 0, 0, 0, 0],
+        Body::Call(a) => [Body::CALL, e, w, a.0, 0, 0, 0, 0],
+        Body::Return(p) => [Body::RETURN, e, w, p.0, 0, 0, 0, 0],
+        Body::Sync => [Body::SYNC, e, w, 0, 0, 0, 0, 0],
+        Body::Modulator(f) => [Body::MODULATOR, e, w, f.op, f.nco, f.payload, 0, 0],
+        Body::LoadCmp(p) => [Body::LOAD_CMP, e, w, p.0, 0, 0, 0, 0],
+        Body::Prefetch(a) => [Body::PREFETCH, e, w, a.0, 0, 0, 0, 0],
+        Body::Noop => [Body::NOOP, e, w, 0, 0, 0, 0, 0],
+    }
+}
+
+#[no_mangle]
+pub extern "C" fn aps2_read(word: u64, fields: &mut [u64; 8]) -> u64
+    ensures { λ r. ⌜ Read (readingOf word) r (now (fields .exit)) ⌝ }
+{
+    let reading = read(word);
+    match reading {
+        Reading::Accepted(i) => {
+            *fields = fields_of(i);
+            0
+        }
+        Reading::Refused(r) => {
+            *fields = [0; 8];
+            r.number
+        }
+    }
+}
+
+fn body_of(code: u64, fields: &[u64; 8]) -> Body
+    ensures { λ r. ⌜ r ≡ bodyOf code (valuesAsked (now (fields .entry))) ⌝ }
+{
+    let a = fields[3];
+    let b = fields[4];
+    let c = fields[5];
+    let d = fields[6];
+    match code {
+        Body::WAVEFORM => Body::Waveform(WaveformFields {
+            op: a,
+            ta: b,
+            count: QuadSamples(c),
+            address: QuadSamples(d),
+        }),
+        Body::MARKER => Body::Marker(MarkerFields {
+            op: a,
+            transition: b,
+            state: c,
+            count: QuadSamples(d),
+        }),
+        Body::WAIT => Body::Wait,
+        Body::LOAD_REPEAT => Body::LoadRepeat(Repeats(a)),
+        Body::REPEAT => Body::Repeat(WordAddress(a)),
+        Body::CMP => Body::Cmp(Comparison { code: a, mask: b }),
+        Body::GOTO => Body::Goto(WordAddress(a)),
+        Body::CALL => Body::Call(WordAddress(a)),
+        Body::RETURN => Body::Return(Ignored(a)),
+        Body::SYNC => Body::Sync,
+        Body::MODULATOR => Body::Modulator(ModulatorFields {
+            op: a,
+            nco: b,
+            payload: c,
+        }),
+        Body::LOAD_CMP => Body::LoadCmp(Ignored(a)),
+        Body::PREFETCH => Body::Prefetch(WordAddress(a)),
+        _ => Body::Noop,
+    }
+}
+
+// How many of the table's fields a name has.
+fn shown_count(body: Body) -> u64
+    ensures { λ r. ⌜ r ≡ length (shownOf body) ⌝ }
+{
+    match body {
+        Body::Waveform(_) => 4,
+        Body::Marker(_) => 4,
+        Body::Wait => 0,
+        Body::LoadRepeat(_) => 1,
+        Body::Repeat(_) => 1,
+        Body::Cmp(_) => 2,
+        Body::Goto(_) => 1,
+        Body::Call(_) => 1,
+        Body::Return(_) => 1,
+        Body::Sync => 0,
+        Body::Modulator(_) => 3,
+        Body::LoadCmp(_) => 1,
+        Body::Prefetch(_) => 1,
+        Body::Noop => 0,
+    }
+}
+
+fn filled_past(n: u64, fields: &[u64; 8]) -> bool
+    ensures { λ r. ⌜ r ≡ filledPast false n 0 (valuesAsked (now (fields .entry))) ⌝ }
+{
+    (n <= 0) & (fields[3] != 0)
+        | (n <= 1) & (fields[4] != 0)
+        | (n <= 2) & (fields[5] != 0)
+        | (n <= 3) & (fields[6] != 0)
+        | (n <= 4) & (fields[7] != 0)
+}
+
+fn is_name(code: u64) -> bool
+    ensures { λ r. ⌜ r ≡ isName code ⌝ }
+{
+    (code <= Body::PREFETCH) | (code == Body::NOOP)
+}
+
+fn wish(fields: &[u64; 8]) -> Written
+    ensures { λ r. ⌜ r ≡ wishOf (now (fields .entry)) ⌝ }
+{
+    let code = fields[0];
+    let engine = fields[1];
+    let flag = fields[2];
+    let body = body_of(code, fields);
+    if filled_past(shown_count(body), fields) {
+        return Written {
+            number: Refusal::TOO_WIDE,
+            word: 0,
+        };
+    }
+    if is_name(code) {
+        return write(Instruction {
+            engine,
+            write: flag,
+            body,
+        });
+    }
+    if Instruction::header_fits(engine, flag) {
+        return Written {
+            number: Refusal::NO_SUCH_CODE,
+            word: 0,
+        };
+    }
+    Written {
+        number: Refusal::TOO_WIDE,
+        word: 0,
+    }
+}
+
+#[no_mangle]
+pub extern "C" fn aps2_write(fields: &[u64; 8], word: &mut [u64; 1]) -> u64
+    ensures { λ r. ⌜ Wrote (wishOf (now (fields .entry))) r (now (word .exit)) ⌝ }
+{
+    let written = wish(fields);
+    *word = [written.word];
+    written.number
+}

@@ -1,0 +1,702 @@
+// The instruction: its units, its fields with their places and widths, and the form numbers that it alone decides.
+// Reader and writer judge words and wishes by what stands here, so that both mean the same.
+ghost use mathlib.Core.Path.{_≡_};
+ghost use mathlib.Core.List.{List, [], _∷_};
+ghost use Prim.Native.Nat.{_+_, _≤_, _^_};
+ghost use Rattle.instruction.specs.Bits.{held, heldIn, laid, laidOnto, allFit};
+ghost use Rattle.instruction.specs.Table.{opCode, engineSelect, writeFlag, engineOp, target, repeatCount, wholePayload, payloadOf, codeOf, valuesOf, waveformOf, markerOf, comparisonOf, modulatorOf, bodyOf};
+ghost use Rattle.instruction.specs.Form.{bodyForm, formOf};
+ghost use Rattle.instruction.specs.Word.{codeIn, valuesIn, spelledBy, wordOf, bodyFits, fitsOf};
+
+// ---- Units: samples, quad-samples and word addresses are counted apart.
+
+pub struct Samples(pub u64);
+
+impl Samples {
+    pub const PER_QUAD: u64 = 4;
+
+    // The manual's shortest instruction.
+    pub const SHORTEST: u64 = 8;
+}
+
+pub struct QuadSamples(pub u64);
+
+impl QuadSamples {
+    pub const SHORTEST: u64 = Samples::SHORTEST / Samples::PER_QUAD;
+
+    // A waveform is prefetched from a multiple of this.
+    pub const PREFETCHED: u64 = 16384;
+}
+
+pub struct WordAddress(pub u64);
+
+impl WordAddress {
+    pub const PLACE: Field = Field { low: 0, width: 26 };
+
+    // Instructions are prefetched from a multiple of this.
+    pub const PREFETCHED: u64 = 128;
+
+    fn spelled_by(word: u64) -> WordAddress
+        ensures { λ r. ⌜ r ≡ record { 0 = held word target } ⌝ }
+    {
+        WordAddress((word >> WordAddress::PLACE.low) % (1 << WordAddress::PLACE.width))
+    }
+
+    fn laid_onto(self, sum: u64) -> u64
+        requires { ⌜ sum + 2 ^ 56 ≤ 2 ^ 64 ⌝ }
+        ensures { λ r. ⌜ r ≡ laidOnto sum (target ∷ []) (self .0 ∷ []) ⌝ }
+    {
+        sum + self.0 % (1 << WordAddress::PLACE.width) * (1 << WordAddress::PLACE.low)
+    }
+
+    fn fits(self) -> bool
+        ensures { λ r. ⌜ r ≡ allFit (target ∷ []) (self .0 ∷ []) ⌝ }
+    {
+        self.0 < 1 << WordAddress::PLACE.width
+    }
+
+    fn prefetch_form(self) -> u64
+        ensures { λ r. ⌜ r ≡ bodyForm 0 (Body.Prefetch self) ⌝ }
+    {
+        let address = self.0;
+        if address % WordAddress::PREFETCHED != 0 {
+            Refusal::ASKEW
+        } else {
+            0
+        }
+    }
+}
+
+// ---- Fields: where one lies in a word, and how many bits it has.
+
+pub struct Field {
+    pub low: u64,
+    pub width: u64,
+}
+
+// The op of WAVEFORM and MARKER, and of WAIT and SYNC, whose own it is.
+pub struct EngineOp;
+
+impl EngineOp {
+    pub const PLACE: Field = Field { low: 46, width: 2 };
+
+    pub const PLAY: u64 = 0;
+
+    pub const WAIT_TRIGGER: u64 = 1;
+
+    pub const WAIT_SYNC: u64 = 2;
+
+    pub const PREFETCH: u64 = 3;
+
+    pub fn held_in(word: u64) -> u64
+        ensures { λ r. ⌜ r ≡ held word engineOp ⌝ }
+    {
+        (word >> EngineOp::PLACE.low) % (1 << EngineOp::PLACE.width)
+    }
+
+    // The payload of WAIT or SYNC.
+    fn laid_onto(own: u64, sum: u64) -> u64
+        requires { ⌜ sum + 2 ^ 56 ≤ 2 ^ 64 ⌝ }
+        ensures { λ r. ⌜ r ≡ laidOnto sum (engineOp ∷ []) (own ∷ []) ⌝ }
+    {
+        sum + own % (1 << EngineOp::PLACE.width) * (1 << EngineOp::PLACE.low)
+    }
+
+    // The form of WAIT or SYNC.
+    fn wait_form(write: u64) -> u64
+        ensures { λ r. ⌜ r ≡ bodyForm write Body.Wait ⌝ }
+    {
+        if write == 0 {
+            Refusal::NO_WRITE_FLAG
+        } else {
+            0
+        }
+    }
+}
+
+pub struct WaveformFields {
+    pub op: u64,
+    pub ta: u64,
+    pub count: QuadSamples,
+    pub address: QuadSamples,
+}
+
+impl WaveformFields {
+    pub const TA: Field = Field { low: 45, width: 1 };
+
+    pub const COUNT: Field = Field { low: 24, width: 21 };
+
+    pub const ADDRESS: Field = Field { low: 0, width: 24 };
+
+    fn spelled_by(word: u64) -> WaveformFields
+        ensures { λ r. ⌜ r ≡ waveformOf (heldIn word (payloadOf 0)) ⌝ }
+    {
+        WaveformFields {
+            op: (word >> EngineOp::PLACE.low) % (1 << EngineOp::PLACE.width),
+            ta: (word >> WaveformFields::TA.low) % (1 << WaveformFields::TA.width),
+            count: QuadSamples(
+                (word >> WaveformFields::COUNT.low) % (1 << WaveformFields::COUNT.width),
+            ),
+            address: QuadSamples(
+                (word >> WaveformFields::ADDRESS.low) % (1 << WaveformFields::ADDRESS.width),
+            ),
+        }
+    }
+
+    fn laid_onto(self, sum: u64) -> u64
+        requires { ⌜ sum + 2 ^ 56 ≤ 2 ^ 64 ⌝ }
+        ensures { λ r. ⌜ r ≡ laidOnto sum (payloadOf 0) (valuesOf (Body.Waveform self)) ⌝ }
+    {
+        sum
+            + self.op % (1 << EngineOp::PLACE.width) * (1 << EngineOp::PLACE.low)
+            + self.ta % (1 << WaveformFields::TA.width) * (1 << WaveformFields::TA.low)
+            + self.count.0 % (1 << WaveformFields::COUNT.width) * (1 << WaveformFields::COUNT.low)
+            + self.address.0 % (1 << WaveformFields::ADDRESS.width)
+                * (1 << WaveformFields::ADDRESS.low)
+    }
+
+    fn fits(self) -> bool
+        ensures { λ r. ⌜ r ≡ bodyFits (Body.Waveform self) ⌝ }
+    {
+        (self.op < 1 << EngineOp::PLACE.width)
+            & (self.ta < 1 << WaveformFields::TA.width)
+            & (self.count.0 < 1 << WaveformFields::COUNT.width)
+            & (self.address.0 < 1 << WaveformFields::ADDRESS.width)
+    }
+
+    fn form(self) -> u64
+        ensures { λ r. ⌜ r ≡ bodyForm 0 (Body.Waveform self) ⌝ }
+    {
+        let op = self.op;
+        let ta = self.ta;
+        let count = self.count.0;
+        let address = self.address.0;
+        let awaits = (op == EngineOp::WAIT_TRIGGER) | (op == EngineOp::WAIT_SYNC);
+        let prefetches = op == EngineOp::PREFETCH;
+        if awaits & ((ta != 0) | (count != 0) | (address != 0))
+            | prefetches & ((ta != 0) | (count != 0))
+        {
+            return Refusal::USELESS_FIELD;
+        }
+        if (op == EngineOp::PLAY) & (count < QuadSamples::SHORTEST) {
+            return Refusal::TOO_SHORT;
+        }
+        if prefetches & (address % QuadSamples::PREFETCHED != 0) {
+            return Refusal::ASKEW;
+        }
+        0
+    }
+}
+
+pub struct MarkerFields {
+    pub op: u64,
+    pub transition: u64,
+    pub state: u64,
+    pub count: QuadSamples,
+}
+
+impl MarkerFields {
+    pub const TRANSITION: Field = Field { low: 33, width: 4 };
+
+    pub const STATE: Field = Field { low: 32, width: 1 };
+
+    pub const COUNT: Field = Field { low: 0, width: 32 };
+
+    fn spelled_by(word: u64) -> MarkerFields
+        ensures { λ r. ⌜ r ≡ markerOf (heldIn word (payloadOf 1)) ⌝ }
+    {
+        MarkerFields {
+            op: (word >> EngineOp::PLACE.low) % (1 << EngineOp::PLACE.width),
+            transition: (word >> MarkerFields::TRANSITION.low)
+                % (1 << MarkerFields::TRANSITION.width),
+            state: (word >> MarkerFields::STATE.low) % (1 << MarkerFields::STATE.width),
+            count: QuadSamples(
+                (word >> MarkerFields::COUNT.low) % (1 << MarkerFields::COUNT.width),
+            ),
+        }
+    }
+
+    fn laid_onto(self, sum: u64) -> u64
+        requires { ⌜ sum + 2 ^ 56 ≤ 2 ^ 64 ⌝ }
+        ensures { λ r. ⌜ r ≡ laidOnto sum (payloadOf 1) (valuesOf (Body.Marker self)) ⌝ }
+    {
+        sum
+            + self.op % (1 << EngineOp::PLACE.width) * (1 << EngineOp::PLACE.low)
+            + self.transition % (1 << MarkerFields::TRANSITION.width)
+                * (1 << MarkerFields::TRANSITION.low)
+            + self.state % (1 << MarkerFields::STATE.width) * (1 << MarkerFields::STATE.low)
+            + self.count.0 % (1 << MarkerFields::COUNT.width) * (1 << MarkerFields::COUNT.low)
+    }
+
+    fn fits(self) -> bool
+        ensures { λ r. ⌜ r ≡ bodyFits (Body.Marker self) ⌝ }
+    {
+        (self.op < 1 << EngineOp::PLACE.width)
+            & (self.transition < 1 << MarkerFields::TRANSITION.width)
+            & (self.state < 1 << MarkerFields::STATE.width)
+            & (self.count.0 < 1 << MarkerFields::COUNT.width)
+    }
+
+    fn form(self) -> u64
+        ensures { λ r. ⌜ r ≡ bodyForm 0 (Body.Marker self) ⌝ }
+    {
+        let op = self.op;
+        let transition = self.transition;
+        let state = self.state;
+        let count = self.count.0;
+        let awaits = (op == EngineOp::WAIT_TRIGGER) | (op == EngineOp::WAIT_SYNC);
+        if op == EngineOp::PREFETCH {
+            return Refusal::NO_SUCH_OP;
+        }
+        if awaits & ((transition != 0) | (state != 0) | (count != 0)) {
+            return Refusal::USELESS_FIELD;
+        }
+        if (op == EngineOp::PLAY) & (count < QuadSamples::SHORTEST) {
+            return Refusal::TOO_SHORT;
+        }
+        0
+    }
+}
+
+// What LOAD_REPEAT loads.
+pub struct Repeats(pub u64);
+
+impl Repeats {
+    pub const PLACE: Field = Field { low: 0, width: 16 };
+
+    fn spelled_by(word: u64) -> Repeats
+        ensures { λ r. ⌜ r ≡ record { 0 = held word repeatCount } ⌝ }
+    {
+        Repeats((word >> Repeats::PLACE.low) % (1 << Repeats::PLACE.width))
+    }
+
+    fn laid_onto(self, sum: u64) -> u64
+        requires { ⌜ sum + 2 ^ 56 ≤ 2 ^ 64 ⌝ }
+        ensures { λ r. ⌜ r ≡ laidOnto sum (repeatCount ∷ []) (self .0 ∷ []) ⌝ }
+    {
+        sum + self.0 % (1 << Repeats::PLACE.width) * (1 << Repeats::PLACE.low)
+    }
+}
+
+pub struct Comparison {
+    pub code: u64,
+    pub mask: u64,
+}
+
+impl Comparison {
+    pub const CODE: Field = Field { low: 8, width: 2 };
+
+    pub const MASK: Field = Field { low: 0, width: 8 };
+
+    fn spelled_by(word: u64) -> Comparison
+        ensures { λ r. ⌜ r ≡ comparisonOf (heldIn word (payloadOf 5)) ⌝ }
+    {
+        Comparison {
+            code: (word >> Comparison::CODE.low) % (1 << Comparison::CODE.width),
+            mask: (word >> Comparison::MASK.low) % (1 << Comparison::MASK.width),
+        }
+    }
+
+    fn laid_onto(self, sum: u64) -> u64
+        requires { ⌜ sum + 2 ^ 56 ≤ 2 ^ 64 ⌝ }
+        ensures { λ r. ⌜ r ≡ laidOnto sum (payloadOf 5) (valuesOf (Body.Cmp self)) ⌝ }
+    {
+        sum
+            + self.code % (1 << Comparison::CODE.width) * (1 << Comparison::CODE.low)
+            + self.mask % (1 << Comparison::MASK.width) * (1 << Comparison::MASK.low)
+    }
+
+    fn fits(self) -> bool
+        ensures { λ r. ⌜ r ≡ bodyFits (Body.Cmp self) ⌝ }
+    {
+        (self.code < 1 << Comparison::CODE.width) & (self.mask < 1 << Comparison::MASK.width)
+    }
+}
+
+// The payload that RETURN and LOAD_CMP ignore: read as 0, and nothing else may be asked for.
+pub struct Ignored(pub u64);
+
+impl Ignored {
+    pub const PLACE: Field = Field { low: 0, width: 56 };
+
+    fn laid_onto(self, sum: u64) -> u64
+        requires { ⌜ sum + 2 ^ 56 ≤ 2 ^ 64 ⌝ }
+        ensures { λ r. ⌜ r ≡ laidOnto sum (wholePayload ∷ []) (self .0 ∷ []) ⌝ }
+    {
+        sum + self.0 % (1 << Ignored::PLACE.width) * (1 << Ignored::PLACE.low)
+    }
+}
+
+pub struct ModulatorFields {
+    pub op: u64,
+    pub nco: u64,
+    pub payload: u64,
+}
+
+impl ModulatorFields {
+    pub const OP: Field = Field { low: 45, width: 3 };
+
+    pub const NCO: Field = Field { low: 40, width: 4 };
+
+    pub const PAYLOAD: Field = Field { low: 0, width: 32 };
+
+    pub const MODULATE: u64 = 0;
+
+    pub const RESET_PHASE: u64 = 1;
+
+    pub const WAIT_TRIGGER: u64 = 2;
+
+    pub const SET_INCREMENT: u64 = 3;
+
+    pub const WAIT_SYNC: u64 = 4;
+
+    pub const SET_OFFSET: u64 = 5;
+
+    pub const RESERVED: u64 = 6;
+
+    pub const UPDATE_FRAME: u64 = 7;
+
+    // Increment, offset and frame are UQ2.28.
+    pub const PHASES: u64 = 1 << 30;
+
+    fn spelled_by(word: u64) -> ModulatorFields
+        ensures { λ r. ⌜ r ≡ modulatorOf (heldIn word (payloadOf 10)) ⌝ }
+    {
+        ModulatorFields {
+            op: (word >> ModulatorFields::OP.low) % (1 << ModulatorFields::OP.width),
+            nco: (word >> ModulatorFields::NCO.low) % (1 << ModulatorFields::NCO.width),
+            payload: (word >> ModulatorFields::PAYLOAD.low) % (1 << ModulatorFields::PAYLOAD.width),
+        }
+    }
+
+    fn laid_onto(self, sum: u64) -> u64
+        requires { ⌜ sum + 2 ^ 56 ≤ 2 ^ 64 ⌝ }
+        ensures { λ r. ⌜ r ≡ laidOnto sum (payloadOf 10) (valuesOf (Body.Modulator self)) ⌝ }
+    {
+        sum
+            + self.op % (1 << ModulatorFields::OP.width) * (1 << ModulatorFields::OP.low)
+            + self.nco % (1 << ModulatorFields::NCO.width) * (1 << ModulatorFields::NCO.low)
+            + self.payload % (1 << ModulatorFields::PAYLOAD.width)
+                * (1 << ModulatorFields::PAYLOAD.low)
+    }
+
+    fn fits(self) -> bool
+        ensures { λ r. ⌜ r ≡ bodyFits (Body.Modulator self) ⌝ }
+    {
+        (self.op < 1 << ModulatorFields::OP.width)
+            & (self.nco < 1 << ModulatorFields::NCO.width)
+            & (self.payload < 1 << ModulatorFields::PAYLOAD.width)
+    }
+
+    fn form(self) -> u64
+        ensures { λ r. ⌜ r ≡ bodyForm 0 (Body.Modulator self) ⌝ }
+    {
+        let op = self.op;
+        let nco = self.nco;
+        let payload = self.payload;
+        let awaits = (op == ModulatorFields::WAIT_TRIGGER) | (op == ModulatorFields::WAIT_SYNC);
+        let modulates = op == ModulatorFields::MODULATE;
+        let resets = op == ModulatorFields::RESET_PHASE;
+        let sets = (op == ModulatorFields::SET_INCREMENT)
+            | (op == ModulatorFields::SET_OFFSET)
+            | (op == ModulatorFields::UPDATE_FRAME);
+        let one_or_two = (nco == 1) | (nco == 2);
+        if op == ModulatorFields::RESERVED {
+            return Refusal::NO_SUCH_OP;
+        }
+        if awaits & ((nco != 0) | (payload != 0)) | resets & (payload != 0) {
+            return Refusal::USELESS_FIELD;
+        }
+        if modulates & (payload < QuadSamples::SHORTEST) {
+            return Refusal::TOO_SHORT;
+        }
+        if modulates & !one_or_two | (resets | sets) & !(one_or_two | (nco == 3)) {
+            return Refusal::WRONG_NCO;
+        }
+        if sets & !(payload < ModulatorFields::PHASES) {
+            return Refusal::WIDE_PHASE;
+        }
+        0
+    }
+}
+
+// ---- Refusals: one number each.
+
+pub struct Refusal {
+    pub number: u64,
+}
+
+impl Refusal {
+    pub const NO_SUCH_CODE: u64 = 10;
+
+    pub const UNNAMED_BIT: u64 = 11;
+
+    pub const NOT_ITS_OP: u64 = 12;
+
+    pub const NO_WRITE_FLAG: u64 = 13;
+
+    pub const NO_SUCH_OP: u64 = 14;
+
+    pub const USELESS_FIELD: u64 = 15;
+
+    pub const TOO_SHORT: u64 = 16;
+
+    pub const ASKEW: u64 = 17;
+
+    pub const WRONG_NCO: u64 = 18;
+
+    pub const WIDE_PHASE: u64 = 19;
+
+    pub const TOO_WIDE: u64 = 23;
+}
+
+// ---- The instruction.
+
+pub enum Body {
+    Waveform(WaveformFields),
+    Marker(MarkerFields),
+    Wait,
+    LoadRepeat(Repeats),
+    Repeat(WordAddress),
+    Cmp(Comparison),
+    Goto(WordAddress),
+    Call(WordAddress),
+    Return(Ignored),
+    Sync,
+    Modulator(ModulatorFields),
+    LoadCmp(Ignored),
+    Prefetch(WordAddress),
+    Noop,
+}
+
+pub struct Instruction {
+    pub engine: u64,
+    pub write: u64,
+    pub body: Body,
+}
+
+impl Instruction {
+    // H2: the word of 64 ones.
+    pub const NOOP: u64 = 0xFFFF_FFFF_FFFF_FFFF;
+
+    pub const CODE: Field = Field { low: 60, width: 4 };
+
+    pub const ENGINE: Field = Field { low: 58, width: 2 };
+
+    pub const WRITE: Field = Field { low: 56, width: 1 };
+
+    pub fn code_in(word: u64) -> u64
+        ensures { λ r. ⌜ r ≡ codeIn word ⌝ }
+    {
+        (word >> Instruction::CODE.low) % (1 << Instruction::CODE.width)
+    }
+
+    pub fn engine_in(word: u64) -> u64
+        ensures { λ r. ⌜ r ≡ held word engineSelect ⌝ }
+    {
+        (word >> Instruction::ENGINE.low) % (1 << Instruction::ENGINE.width)
+    }
+
+    pub fn write_in(word: u64) -> u64
+        ensures { λ r. ⌜ r ≡ held word writeFlag ⌝ }
+    {
+        (word >> Instruction::WRITE.low) % (1 << Instruction::WRITE.width)
+    }
+
+    // The instruction that the fields of a word spell, whatever else is wrong with the word.
+    pub fn spelled_by(word: u64) -> Instruction
+        ensures { λ r. ⌜ r ≡ spelledBy word ⌝ }
+    {
+        Instruction {
+            engine: Instruction::engine_in(word),
+            write: Instruction::write_in(word),
+            body: Body::spelled_by(Instruction::code_in(word), word),
+        }
+    }
+
+    fn header(code: u64, engine: u64, write: u64) -> u64
+        ensures { λ r. ⌜ r ≡ laidOnto (laid opCode code) (engineSelect ∷ writeFlag ∷ []) (engine ∷ write ∷ []) ⌝ }
+    {
+        code % (1 << Instruction::CODE.width) * (1 << Instruction::CODE.low)
+            + engine % (1 << Instruction::ENGINE.width) * (1 << Instruction::ENGINE.low)
+            + write % (1 << Instruction::WRITE.width) * (1 << Instruction::WRITE.low)
+    }
+
+    // The word with each field in its place, cut to its width.
+    pub fn word(self) -> u64
+        ensures { λ r. ⌜ r ≡ wordOf self ⌝ }
+    {
+        let body = self.body;
+        let code = body.code();
+        if code == Body::NOOP {
+            return Instruction::NOOP;
+        }
+        body.laid_onto(Instruction::header(code, self.engine, self.write))
+    }
+
+    // Engine select and write flag are not too wide.
+    pub fn header_fits(engine: u64, write: u64) -> bool
+        ensures { λ r. ⌜ r ≡ allFit (engineSelect ∷ writeFlag ∷ []) (engine ∷ write ∷ []) ⌝ }
+    {
+        (engine < 1 << Instruction::ENGINE.width) & (write < 1 << Instruction::WRITE.width)
+    }
+
+    // Nothing is asked that 23 is given for.
+    pub fn fits(self) -> bool
+        ensures { λ r. ⌜ r ≡ fitsOf self ⌝ }
+    {
+        let body = self.body;
+        let code = body.code();
+        let engine = self.engine;
+        let write = self.write;
+        if code == Body::NOOP {
+            return (engine == 0) & (write == 0);
+        }
+        Instruction::header_fits(engine, write) & body.fits()
+    }
+
+    // The form number 13 to 19, or 0.
+    pub fn form(self) -> u64
+        ensures { λ r. ⌜ r ≡ formOf self ⌝ }
+    {
+        let body = self.body;
+        body.form(self.write)
+    }
+}
+
+impl Body {
+    pub const WAVEFORM: u64 = 0;
+
+    pub const MARKER: u64 = 1;
+
+    pub const WAIT: u64 = 2;
+
+    pub const LOAD_REPEAT: u64 = 3;
+
+    pub const REPEAT: u64 = 4;
+
+    pub const CMP: u64 = 5;
+
+    pub const GOTO: u64 = 6;
+
+    pub const CALL: u64 = 7;
+
+    pub const RETURN: u64 = 8;
+
+    pub const SYNC: u64 = 9;
+
+    pub const MODULATOR: u64 = 10;
+
+    pub const LOAD_CMP: u64 = 11;
+
+    pub const PREFETCH: u64 = 12;
+
+    // NOOP has none of its own.
+    pub const NOOP: u64 = 15;
+
+    pub fn code(self) -> u64
+        ensures { λ r. ⌜ r ≡ codeOf self ⌝ }
+    {
+        match self {
+            Body::Waveform(_) => Body::WAVEFORM,
+            Body::Marker(_) => Body::MARKER,
+            Body::Wait => Body::WAIT,
+            Body::LoadRepeat(_) => Body::LOAD_REPEAT,
+            Body::Repeat(_) => Body::REPEAT,
+            Body::Cmp(_) => Body::CMP,
+            Body::Goto(_) => Body::GOTO,
+            Body::Call(_) => Body::CALL,
+            Body::Return(_) => Body::RETURN,
+            Body::Sync => Body::SYNC,
+            Body::Modulator(_) => Body::MODULATOR,
+            Body::LoadCmp(_) => Body::LOAD_CMP,
+            Body::Prefetch(_) => Body::PREFETCH,
+            Body::Noop => Body::NOOP,
+        }
+    }
+
+    fn spelled_by(code: u64, word: u64) -> Body
+        ensures { λ r. ⌜ r ≡ bodyOf code (valuesIn code word) ⌝ }
+    {
+        match code {
+            Body::WAVEFORM => Body::Waveform(WaveformFields::spelled_by(word)),
+            Body::MARKER => Body::Marker(MarkerFields::spelled_by(word)),
+            Body::WAIT => Body::Wait,
+            Body::LOAD_REPEAT => Body::LoadRepeat(Repeats::spelled_by(word)),
+            Body::REPEAT => Body::Repeat(WordAddress::spelled_by(word)),
+            Body::CMP => Body::Cmp(Comparison::spelled_by(word)),
+            Body::GOTO => Body::Goto(WordAddress::spelled_by(word)),
+            Body::CALL => Body::Call(WordAddress::spelled_by(word)),
+            Body::RETURN => Body::Return(Ignored(0)),
+            Body::SYNC => Body::Sync,
+            Body::MODULATOR => Body::Modulator(ModulatorFields::spelled_by(word)),
+            Body::LOAD_CMP => Body::LoadCmp(Ignored(0)),
+            Body::PREFETCH => Body::Prefetch(WordAddress::spelled_by(word)),
+            _ => Body::Noop,
+        }
+    }
+
+    fn laid_onto(self, sum: u64) -> u64
+        requires { ⌜ sum + 2 ^ 56 ≤ 2 ^ 64 ⌝ }
+        ensures { λ r. ⌜ r ≡ laidOnto sum (payloadOf (codeOf self)) (valuesOf self) ⌝ }
+    {
+        match self {
+            Body::Waveform(f) => f.laid_onto(sum),
+            Body::Marker(f) => f.laid_onto(sum),
+            Body::Wait => EngineOp::laid_onto(EngineOp::WAIT_TRIGGER, sum),
+            Body::LoadRepeat(n) => n.laid_onto(sum),
+            Body::Repeat(a) => a.laid_onto(sum),
+            Body::Cmp(x) => x.laid_onto(sum),
+            Body::Goto(a) => a.laid_onto(sum),
+            Body::Call(a) => a.laid_onto(sum),
+            Body::Return(p) => p.laid_onto(sum),
+            Body::Sync => EngineOp::laid_onto(EngineOp::WAIT_SYNC, sum),
+            Body::Modulator(f) => f.laid_onto(sum),
+            Body::LoadCmp(p) => p.laid_onto(sum),
+            Body::Prefetch(a) => a.laid_onto(sum),
+            Body::Noop => sum,
+        }
+    }
+
+    fn fits(self) -> bool
+        ensures { λ r. ⌜ r ≡ bodyFits self ⌝ }
+    {
+        match self {
+            Body::Waveform(f) => f.fits(),
+            Body::Marker(f) => f.fits(),
+            Body::Wait => true,
+            Body::LoadRepeat(n) => n.0 < 1 << Repeats::PLACE.width,
+            Body::Repeat(a) => a.fits(),
+            Body::Cmp(x) => x.fits(),
+            Body::Goto(a) => a.fits(),
+            Body::Call(a) => a.fits(),
+            Body::Return(p) => p.0 == 0,
+            Body::Sync => true,
+            Body::Modulator(f) => f.fits(),
+            Body::LoadCmp(p) => p.0 == 0,
+            Body::Prefetch(a) => a.fits(),
+            Body::Noop => true,
+        }
+    }
+
+    fn form(self, write: u64) -> u64
+        ensures { λ r. ⌜ r ≡ bodyForm write self ⌝ }
+    {
+        match self {
+            Body::Waveform(f) => f.form(),
+            Body::Marker(f) => f.form(),
+            Body::Wait => EngineOp::wait_form(write),
+            Body::LoadRepeat(_) => 0,
+            Body::Repeat(_) => 0,
+            Body::Cmp(_) => 0,
+            Body::Goto(_) => 0,
+            Body::Call(_) => 0,
+            Body::Return(_) => 0,
+            Body::Sync => EngineOp::wait_form(write),
+            Body::Modulator(f) => f.form(),
+            Body::LoadCmp(_) => 0,
+            Body::Prefetch(a) => a.prefetch_form(),
+            Body::Noop => 0,
+        }
+    }
+}

@@ -1,0 +1,84 @@
+// Reading: every 64-bit word is one instruction or has one form number.
+// The word is judged by all its bits, never by its header alone.
+ghost use mathlib.Core.Path.{_≡_};
+ghost use lib.ListN.{getD};
+ghost use Rattle.reader.specs.Reading.{hasUnnamed, notItsOp, formIn, readingOf};
+use instruction::Body;
+use instruction::EngineOp;
+use instruction::Instruction;
+use instruction::Refusal;
+
+pub enum Reading {
+    Accepted(Instruction),
+    Refused(Refusal),
+}
+
+// The bits that each op code names; 13 to 15 are no codes, and name the header alone.
+const NAMED_BITS: [u64; 16] = [
+    0xFD00_FFFF_FFFF_FFFF,
+    0xFD00_C01F_FFFF_FFFF,
+    0xFD00_C000_0000_0000,
+    0xFD00_0000_0000_FFFF,
+    0xFD00_0000_03FF_FFFF,
+    0xFD00_0000_0000_03FF,
+    0xFD00_0000_03FF_FFFF,
+    0xFD00_0000_03FF_FFFF,
+    0xFDFF_FFFF_FFFF_FFFF,
+    0xFD00_C000_0000_0000,
+    0xFD00_EF00_FFFF_FFFF,
+    0xFDFF_FFFF_FFFF_FFFF,
+    0xFD00_0000_03FF_FFFF,
+    0xFD00_0000_0000_0000,
+    0xFD00_0000_0000_0000,
+    0xFD00_0000_0000_0000,
+];
+
+fn has_unnamed(word: u64) -> bool
+    ensures { λ r. ⌜ r ≡ hasUnnamed word ⌝ }
+{
+    let code = Instruction::code_in(word) as usize;
+    word & NAMED_BITS[code] != word
+}
+
+fn not_its_op(word: u64) -> bool
+    ensures { λ r. ⌜ r ≡ notItsOp word ⌝ }
+{
+    let code = Instruction::code_in(word);
+    let op = EngineOp::held_in(word);
+    (code == Body::WAIT) & (op != EngineOp::WAIT_TRIGGER)
+        | (code == Body::SYNC) & (op != EngineOp::WAIT_SYNC)
+}
+
+// The form number of a word that is not NOOP, the lowest first, or 0.
+fn form_in(word: u64) -> u64
+    ensures { λ r. ⌜ r ≡ formIn word ⌝ }
+{
+    if Body::PREFETCH < Instruction::code_in(word) {
+        return Refusal::NO_SUCH_CODE;
+    }
+    if has_unnamed(word) {
+        return Refusal::UNNAMED_BIT;
+    }
+    if not_its_op(word) {
+        return Refusal::NOT_ITS_OP;
+    }
+    Instruction::spelled_by(word).form()
+}
+
+pub fn read(word: u64) -> Reading
+    ensures { λ r. ⌜ r ≡ readingOf word ⌝ }
+{
+    if word == Instruction::NOOP {
+        return Reading::Accepted(Instruction {
+            engine: 0,
+            write: 0,
+            body: Body::Noop,
+        });
+    }
+    let number = form_in(word);
+    if number == 0 {
+        Reading::Accepted(Instruction::spelled_by(word))
+    } else {
+        Reading::Refused(Refusal { number })
+    }
+}

@@ -1,0 +1,18 @@
+-- What an instruction is written as: a word with number 0, or a number with word zero. Document 01, "Numbers given back".
+-- The writer "judges no placing".
+use Prim.Native.Nat.{ℕ}
+use mathlib.Core.Bool.{not}
+use lib.Dec.{eqb}
+use Rattle.instruction.specs.Bits.{pick, _gives_else_}
+use Rattle.instruction.specs.Form.{formOf}
+use Rattle.instruction.specs.Word.{fitsOf, wordOf}
+use Rattle.instruction.specs.declared.Instruction.{Instruction}
+use Rattle.writer.specs.declared.Written.{Written}
+
+-- "The writer gives 23 for a field too wide for its bits, tested first, then form numbers"
+unfoldable pub askedOf : Instruction → ℕ
+askedOf i = not (fitsOf i) gives 23 else formOf i
+
+-- "each with word zero"; "A word written has number 0"
+unfoldable pub writtenOf : Instruction → Written
+writtenOf i = record { number = askedOf i; word = pick (eqb (askedOf i) 0) (wordOf i) 0 }

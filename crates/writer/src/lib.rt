@@ -1,0 +1,35 @@
+// Writing: every instruction asked for is a word, or has one number and word zero.
+// What is written with number 0 reads back as the instruction asked for.
+ghost use mathlib.Core.Path.{_≡_};
+ghost use Rattle.writer.specs.Writing.{askedOf, writtenOf};
+use instruction::Instruction;
+use instruction::Refusal;
+
+pub struct Written {
+    pub number: u64,
+    pub word: u64,
+}
+
+// 23 first, then the form number, or 0.
+fn asked(i: Instruction) -> u64
+    ensures { λ r. ⌜ r ≡ askedOf i ⌝ }
+{
+    if !i.fits() {
+        return Refusal::TOO_WIDE;
+    }
+    i.form()
+}
+
+pub fn write(i: Instruction) -> Written
+    ensures { λ r. ⌜ r ≡ writtenOf i ⌝ }
+{
+    let number = asked(i);
+    if number == 0 {
+        Written {
+            number,
+            word: i.word(),
+        }
+    } else {
+        Written { number, word: 0 }
+    }
+}
