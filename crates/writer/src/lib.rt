@@ -24,11 +24,9 @@ pub fn write(i: Instruction) -> Written
     ensures { λ r. ⌜ r ≡ writtenOf i ⌝ }
 {
     let number = asked(i);
+    let word = i.word();
     if number == 0 {
-        Written {
-            number,
-            word: i.word(),
-        }
+        Written { number, word }
     } else {
         Written { number, word: 0 }
     }
