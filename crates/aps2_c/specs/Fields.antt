@@ -11,6 +11,7 @@ use Rattle.instruction.specs.Table.{engineSelect, writeFlag, codeOf, valuesOf, 
 use Rattle.instruction.specs.Form.{filled}
 use Rattle.instruction.specs.declared.Instruction.{Instruction}
 use Rattle.instruction.specs.declared.Body.{Body}
+use Rattle.instruction.specs.declared.Body.the-variants.{Wait, Sync, Noop}
 use Rattle.reader.specs.Reading.{numberOf}
 use Rattle.reader.specs.declared.Reading.{Reading}
 use Rattle.reader.specs.declared.Reading.the-variants.{Accepted, Refused}
@@ -21,7 +22,7 @@ use Rattle.writer.specs.declared.Written.{Written}
 
 -- "WAIT and SYNC: none": their op is their own
 abbrev pub isOwn : ℕ → Bool
-isOwn code = eqb code 2 || eqb code 9
+isOwn code = eqb code (codeOf Wait) || eqb code (codeOf Sync)
 
 -- n numbers, zeros after those given
 abbrev pub paddedTo : ℕ → List ℕ → List ℕ
@@ -48,7 +49,7 @@ pub record Read (reading : Reading) (r : ℕ) (fs : List ℕ) : Type 0 where
 -- ---- writing
 
 abbrev pub isName : ℕ → Bool
-isName code = leb code 12 || eqb code 15
+isName code = leb code 12 || eqb code (codeOf Noop)
 
 -- so far, or a number past the first n is not zero; k numbers went before
 abbrev pub filledPast : Bool → ℕ → ℕ → List ℕ → Bool

@@ -255,19 +255,19 @@ again w (suc (suc (suc (suc (suc (suc (suc (suc (suc (suc (suc (suc (suc n))))))
 
 -- what a form number of 0 says of a word
 record Passed (w : ℕ) : Type 0 where
-  low : codeIn w ≤ 12
+  low : codeIn w < 13
   named : hasUnnamed w ≡ false
   own : notItsOp w ≡ false
   form : formOf (spelledBy w) ≡ 0
 
 passed : (w : ℕ) → formIn w ≡ 0 → Passed w
-passed w z = by (decLt 12 (codeIn w)) (hasUnnamed w) refl (notItsOp w) refl
+passed w z = by (decLt (codeIn w) 13) (hasUnnamed w) refl (notItsOp w) refl
   where
-    by : Dec (12 < codeIn w) → (u : Bool) → hasUnnamed w ≡ u → (o : Bool) → notItsOp w ≡ o → Passed w
-    by (yes h) u p o q = absurd (omega (arith, z, form-10 w h))
-    by (no h) true p o q = absurd (omega (arith, z, form-11 w (omega arith) p))
-    by (no h) false p true q = absurd (omega (arith, z, form-12 w (omega arith) p q))
-    by (no h) false p false q = record { low = omega arith; named = p; own = q; form = sym (form-rest w (omega arith) p q) ∙ z }
+    by : Dec (codeIn w < 13) → (u : Bool) → hasUnnamed w ≡ u → (o : Bool) → notItsOp w ≡ o → Passed w
+    by (no h) u p o q = absurd (omega (arith, z, form-10 w (omega arith)))
+    by (yes h) true p o q = absurd (omega (arith, z, form-11 w h p))
+    by (yes h) false p true q = absurd (omega (arith, z, form-12 w h p q))
+    by (yes h) false p false q = record { low = h; named = p; own = q; form = sym (form-rest w h p q) ∙ z }
 
 -- RETURN and LOAD_CMP: the header above a payload of 0
 top : (w : ℕ) → sumOf (opCode ∷ engineSelect ∷ writeFlag ∷ wholePayload ∷ []) (heldIn w (opCode ∷ engineSelect ∷ writeFlag ∷ wholePayload ∷ [])) ≡ w
@@ -323,7 +323,7 @@ by-form : (w : ℕ) → w < 2 ^ 64 → (i : Instruction) → (w ≡ noopWord →
     → writtenOf i ≡ record { number = 0; word = zeroed w }
 by-form w h i n r (yes z) =
     let x = passed w z in
-    ap writtenOf (same (sym r ∙ reads w n z)) ∙ accepted w h x (again w (codeIn w) (omega (arith, x .low)) refl (x .own))
+    ap writtenOf (same (sym r ∙ reads w n z)) ∙ accepted w h x (again w (codeIn w) (x .low) refl (x .own))
 by-form w h i n r (no z) = absurd (refused (sym (refuses w n z) ∙ r))
 
 by-noop : (w : ℕ) → w < 2 ^ 64 → (i : Instruction) → readingOf w ≡ Accepted i → Dec (w ≡ noopWord)

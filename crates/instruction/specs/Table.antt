@@ -95,7 +95,7 @@ abbrev pub noopWord : ℕ
 noopWord = 2 ^ 64 - 1
 
 abbrev pub isNoop : Body → Bool
-isNoop b = eqb (codeOf b) 15
+isNoop b = eqb (codeOf b) (codeOf Noop)
 
 -- "RETURN, LOAD_CMP: ignored, any payload"
 abbrev pub isIgnored : ℕ → Bool

@@ -3,7 +3,7 @@
 ghost use mathlib.Core.Path.{_≡_};
 ghost use mathlib.Core.List.{List, [], _∷_};
 ghost use Prim.Native.Nat.{_+_, _≤_, _^_};
-ghost use Rattle.instruction.specs.Bits.{held, heldIn, laid, laidOnto, allFit};
+ghost use Rattle.instruction.specs.Bits.{span, held, heldIn, laid, laidOnto, allFit};
 ghost use Rattle.instruction.specs.Table.{opCode, engineSelect, writeFlag, engineOp, target, repeatCount, wholePayload, payloadOf, codeOf, valuesOf, waveformOf, markerOf, comparisonOf, modulatorOf, bodyOf};
 ghost use Rattle.instruction.specs.Form.{bodyForm, formOf};
 ghost use Rattle.instruction.specs.Word.{codeIn, valuesIn, spelledBy, wordOf, bodyFits, fitsOf};
@@ -43,7 +43,7 @@ impl WordAddress {
     }
 
     fn laid_onto(self, sum: u64) -> u64
-        requires { ⌜ sum + 2 ^ 56 ≤ 2 ^ 64 ⌝ }
+        requires { ⌜ sum + span wholePayload ≤ 2 ^ 64 ⌝ }
         ensures { λ r. ⌜ r ≡ laidOnto sum (target ∷ []) (self .0 ∷ []) ⌝ }
     {
         sum + self.0 % (1 << WordAddress::PLACE.width) * (1 << WordAddress::PLACE.low)
@@ -96,7 +96,7 @@ impl EngineOp {
 
     // The payload of WAIT or SYNC.
     fn laid_onto(own: u64, sum: u64) -> u64
-        requires { ⌜ sum + 2 ^ 56 ≤ 2 ^ 64 ⌝ }
+        requires { ⌜ sum + span wholePayload ≤ 2 ^ 64 ⌝ }
         ensures { λ r. ⌜ r ≡ laidOnto sum (engineOp ∷ []) (own ∷ []) ⌝ }
     {
         sum + own % (1 << EngineOp::PLACE.width) * (1 << EngineOp::PLACE.low)
@@ -144,7 +144,7 @@ impl WaveformFields {
     }
 
     fn laid_onto(self, sum: u64) -> u64
-        requires { ⌜ sum + 2 ^ 56 ≤ 2 ^ 64 ⌝ }
+        requires { ⌜ sum + span wholePayload ≤ 2 ^ 64 ⌝ }
         ensures { λ r. ⌜ r ≡ laidOnto sum (payloadOf 0) (valuesOf (Body.Waveform self)) ⌝ }
     {
         sum
@@ -217,7 +217,7 @@ impl MarkerFields {
     }
 
     fn laid_onto(self, sum: u64) -> u64
-        requires { ⌜ sum + 2 ^ 56 ≤ 2 ^ 64 ⌝ }
+        requires { ⌜ sum + span wholePayload ≤ 2 ^ 64 ⌝ }
         ensures { λ r. ⌜ r ≡ laidOnto sum (payloadOf 1) (valuesOf (Body.Marker self)) ⌝ }
     {
         sum
@@ -271,7 +271,7 @@ impl Repeats {
     }
 
     fn laid_onto(self, sum: u64) -> u64
-        requires { ⌜ sum + 2 ^ 56 ≤ 2 ^ 64 ⌝ }
+        requires { ⌜ sum + span wholePayload ≤ 2 ^ 64 ⌝ }
         ensures { λ r. ⌜ r ≡ laidOnto sum (repeatCount ∷ []) (self .0 ∷ []) ⌝ }
     {
         sum + self.0 % (1 << Repeats::PLACE.width) * (1 << Repeats::PLACE.low)
@@ -298,7 +298,7 @@ impl Comparison {
     }
 
     fn laid_onto(self, sum: u64) -> u64
-        requires { ⌜ sum + 2 ^ 56 ≤ 2 ^ 64 ⌝ }
+        requires { ⌜ sum + span wholePayload ≤ 2 ^ 64 ⌝ }
         ensures { λ r. ⌜ r ≡ laidOnto sum (payloadOf 5) (valuesOf (Body.Cmp self)) ⌝ }
     {
         sum
@@ -320,7 +320,7 @@ impl Ignored {
     pub const PLACE: Field = Field { low: 0, width: 56 };
 
     fn laid_onto(self, sum: u64) -> u64
-        requires { ⌜ sum + 2 ^ 56 ≤ 2 ^ 64 ⌝ }
+        requires { ⌜ sum + span wholePayload ≤ 2 ^ 64 ⌝ }
         ensures { λ r. ⌜ r ≡ laidOnto sum (wholePayload ∷ []) (self .0 ∷ []) ⌝ }
     {
         sum + self.0 % (1 << Ignored::PLACE.width) * (1 << Ignored::PLACE.low)
@@ -370,7 +370,7 @@ impl ModulatorFields {
     }
 
     fn laid_onto(self, sum: u64) -> u64
-        requires { ⌜ sum + 2 ^ 56 ≤ 2 ^ 64 ⌝ }
+        requires { ⌜ sum + span wholePayload ≤ 2 ^ 64 ⌝ }
         ensures { λ r. ⌜ r ≡ laidOnto sum (payloadOf 10) (valuesOf (Body.Modulator self)) ⌝ }
     {
         sum
@@ -637,7 +637,7 @@ impl Body {
     }
 
     fn laid_onto(self, sum: u64) -> u64
-        requires { ⌜ sum + 2 ^ 56 ≤ 2 ^ 64 ⌝ }
+        requires { ⌜ sum + span wholePayload ≤ 2 ^ 64 ⌝ }
         ensures { λ r. ⌜ r ≡ laidOnto sum (payloadOf (codeOf self)) (valuesOf self) ⌝ }
     {
         match self {

@@ -3,14 +3,15 @@
 use Prim.Native.Nat.{ℕ, zero, suc}
 use mathlib.Core.Bool.{Bool, true, false, not, _||_, _&&_}
 use mathlib.Core.List.{List, [], _∷_}
-use lib.Dec.{ltb, eqb}
+use lib.Dec.{eqb, leb}
 use Rattle.instruction.specs.Bits.{pick, _gives_else_, isSet, isIn, held}
-use Rattle.instruction.specs.Table.{opCode, engineSelect, writeFlag, engineOp, payloadOf, noopWord, waitOp, syncOp}
+use Rattle.instruction.specs.Table.{opCode, engineSelect, writeFlag, engineOp, payloadOf, codeOf, noopWord, waitOp, syncOp}
 use Rattle.instruction.specs.Form.{formOf}
 use Rattle.instruction.specs.Word.{codeIn, spelledBy, noop}
 use Rattle.instruction.specs.declared.Field.{Field}
 use Rattle.instruction.specs.declared.Instruction.{Instruction}
 use Rattle.instruction.specs.declared.Refusal.{Refusal}
+use Rattle.instruction.specs.declared.Body.the-variants.{Wait, Sync}
 use Rattle.reader.specs.declared.Reading.{Reading}
 use Rattle.reader.specs.declared.Reading.the-variants.{Accepted, Refused}
 
@@ -30,7 +31,7 @@ isNamed code k = isInOne k (opCode ∷ engineSelect ∷ writeFlag ∷ payloadOf 
 
 -- "10 op code 13 to 15, not NOOP"
 abbrev pub noSuchCode : ℕ → Bool
-noSuchCode word = ltb 12 (codeIn word)
+noSuchCode word = leb 13 (codeIn word)
 
 -- "11 a bit set that is not named"
 unfoldable pub hasUnnamed : ℕ → Bool
@@ -39,8 +40,8 @@ hasUnnamed word = someBelow 64 (λ k. isSet k word && not (isNamed (codeIn word)
 -- "12 WAIT or SYNC whose payload op is not its own"
 unfoldable pub notItsOp : ℕ → Bool
 notItsOp word =
-    (eqb (codeIn word) 2 && not (eqb (held word engineOp) waitOp))
-    || (eqb (codeIn word) 9 && not (eqb (held word engineOp) syncOp))
+    (eqb (codeIn word) (codeOf Wait) && not (eqb (held word engineOp) waitOp))
+    || (eqb (codeIn word) (codeOf Sync) && not (eqb (held word engineOp) syncOp))
 
 -- "Form, from the word alone, lowest number wins"; 0 where none is given
 unfoldable pub formIn : ℕ → ℕ

@@ -12,12 +12,12 @@ word-requires : tie.Need-word-requires
 word-requires c κs = search needs
 
 returns : tie.Need-returns
-returns c = 
+returns c =
     let asked = c .before .before .asked .ensures in
     rw (c .before .word .ensures, asked) (sym (written-good _ (sym asked ∙ c .if1 .taken)))
 
 returns-2 : tie.Need-returns-2
-returns-2 c = 
+returns-2 c =
     let asked = c .before .before .asked .ensures in
     rw asked (sym (written-bad _ (λ e. c .if1 .left (asked ∙ e))))
 
