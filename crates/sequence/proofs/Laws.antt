@@ -7,6 +7,12 @@ use native.Mathlib.Decide.{decLt}
 use native.Mathlib.Omega.{arith}
 use borrow.Author.Tests.{lt-ltb, le-ltb, le-leb, lt-leb}
 use lib.Dec.{ltb, leb}
+use Rattle.instruction.specs.declared.WaveformFields.{WaveformFields}
+use Rattle.instruction.specs.declared.MarkerFields.{MarkerFields}
+use Rattle.instruction.specs.declared.ModulatorFields.{ModulatorFields}
+use Rattle.instruction.specs.declared.Body.{Body}
+use Rattle.instruction.specs.declared.Body.the-variants.{Waveform, Marker, Wait, LoadRepeat, Repeat, Cmp, Goto, Call, Return, Sync, Modulator, LoadCmp, Prefetch, Noop}
+use Rattle.sequence.specs.Placing.{onEngine}
 
 -- a sum is past a bound where its second part is more than is left of it
 pub past-sum : (w a c : ℕ) → a ≤ w → ltb (w - a) c ≡ not (leb (a + c) w)
@@ -15,3 +21,22 @@ past-sum w a c h = by (decLt (w - a) c)
     by : Dec (w - a < c) → ltb (w - a) c ≡ not (leb (a + c) w)
     by (yes l) = lt-ltb (w - a) c l ∙ ap not (sym (lt-leb (a + c) w (omega arith)))
     by (no l) = le-ltb (w - a) c (omega arith) ∙ ap not (sym (le-leb (a + c) w (omega arith)))
+
+-- what holds of what each engine makes of its word, and of what any other name gives, holds of what a body gives
+pub on-engine : {A : Type 0} (P : A → Type 0) {waveform : WaveformFields → A} {marker : MarkerFields → A} {modulator : ModulatorFields → A} {other : A}
+    → ((f : WaveformFields) → P (waveform f)) → ((f : MarkerFields) → P (marker f)) → ((f : ModulatorFields) → P (modulator f)) → P other
+    → (b : Body) → P (onEngine waveform marker modulator other b)
+on-engine P p q r s (Waveform f) = p f
+on-engine P p q r s (Marker f) = q f
+on-engine P p q r s Wait = s
+on-engine P p q r s (LoadRepeat n) = s
+on-engine P p q r s (Repeat a) = s
+on-engine P p q r s (Cmp x) = s
+on-engine P p q r s (Goto a) = s
+on-engine P p q r s (Call a) = s
+on-engine P p q r s (Return p′) = s
+on-engine P p q r s Sync = s
+on-engine P p q r s (Modulator f) = r f
+on-engine P p q r s (LoadCmp p′) = s
+on-engine P p q r s (Prefetch a) = s
+on-engine P p q r s Noop = s

@@ -9,7 +9,7 @@ use Rattle.sequence.proofs.Sequence.reaches_past.Statement.{statement}
 use Rattle.sequence.proofs.Sequence.reaches_past.Tie as tie
 
 returns : tie.Need-returns
-returns c = 
+returns c =
     let a = c .before .args in
     let h = c .if1 .taken in
     sym (ap not (lt-leb (a .address + a .count) (a .wave) (omega arith)))

@@ -1,0 +1,60 @@
+-- What the part was left with, said of the whole trace; the counts are those of the group.
+use mathlib.Core.Path.{ap, _∙_}
+use mathlib.Core.List.{List, _++_}
+use Prim.Native.Nat.{ℕ, _-_, _≤_}
+use denote.Ref.{now}
+use native.Mathlib.Omega.{arith}
+use lib.ListN.{length, take, drop, length-drop}
+use lib.Seq.{length-take-le}
+use Rattle.dispatch.specs.Trace.{part}
+use Rattle.dispatch.proofs.Lists.{put-part}
+use borrow.Author.Needs.{needs}
+use Rattle.dispatch.proofs.dispatch.Statement.{statement}
+use Rattle.dispatch.proofs.dispatch.Tie as tie
+
+count-group-requires : tie.Need-count-group-requires
+count-group-requires c κs = search needs
+
+mul-write-group : tie.Need-mul-write-group
+mul-write-group c = search needs
+
+sub-write-group : tie.Need-sub-write-group
+sub-write-group c = search needs
+
+part-write-group-start : tie.Need-part-write-group-start
+part-write-group-start c = search needs
+
+part-write-group-end : tie.Need-part-write-group-end
+part-write-group-end c = search needs
+
+write-group-requires : tie.Need-write-group-requires
+write-group-requires c κs = search needs
+
+same-length : tie.Need-same-length
+same-length c = search needs
+
+returns : tie.Need-returns
+returns c =
+    let d = c .before .before .before .before .before .before .before .before .before in
+    let a = d .args in
+    let t = now (a .trace) in
+    let h : a .n ≤ length (drop (a .from) (now (a .words))) = rw length-drop (omega (arith, d .pre .count .inside)) in
+    record {
+      trace = ap (λ (y : List ℕ). take (a .len) t ++ (y ++ drop (length t - a .len) (drop (a .len) t))) (c .before .before .write-group .ensures)
+          ∙ put-part t (part (a .from) (a .n) (now (a .words))) (a .len) (a .n) (omega (arith, d .pre .fits)) (length-take-le (a .n) (drop (a .from) (now (a .words))) h);
+      waits = c .before .before .before .before .count-group .ensures .waits;
+      totals = c .before .before .before .before .count-group .ensures .totals;
+    }
+
+pub dispatch-spec : {M : Type 1} → statement M
+dispatch-spec =
+    tie.close
+    (tie.spec
+    count-group-requires
+    mul-write-group
+    sub-write-group
+    part-write-group-start
+    part-write-group-end
+    write-group-requires
+    same-length
+    returns)

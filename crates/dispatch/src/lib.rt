@@ -1,0 +1,171 @@
+// Dispatch: a group of words goes into the lent trace, and the six engines count what was sent to them.
+// It goes out whole; whether there is room is asked before.
+ghost use mathlib.Core.Path.{_≡_};
+ghost use mathlib.Core.List.{_++_};
+ghost use Prim.Native.Nat.{_+_, _^_, _≤_, _<_};
+ghost use lib.ListN.{length, drop};
+ghost use Rattle.instruction.specs.Bits.{pick};
+ghost use Rattle.instruction.specs.Word.{spelledBy};
+ghost use Rattle.dispatch.specs.Engines.{shareOf, engineOf, waitsFor, playsFor, plusOne, waitsAfter, totalsAfter, waitsOver, totalsOver, Six, Counted, CountedOne};
+ghost use Rattle.dispatch.specs.Trace.{part, Dispatched, CountedAll, CanCount, CanDispatch};
+use instruction::Body;
+use instruction::EngineOp;
+use instruction::Instruction;
+use instruction::ModulatorFields;
+
+// The engines that count: waveform, markers 0 to 3, modulator.
+pub struct Engines;
+
+impl Engines {
+    pub const COUNT: usize = 6;
+
+    pub const WAVEFORM: u64 = 0;
+
+    pub const FIRST_MARKER: u64 = 1;
+
+    pub const MODULATOR: u64 = 5;
+}
+
+// What one word adds to the counts: to which engine, how many trigger waits, how many quad-samples.
+pub struct Share {
+    pub engine: u64,
+    pub waits: u64,
+    pub plays: u64,
+}
+
+impl Share {
+    fn given(test: bool, number: u64) -> u64
+        ensures { λ r. ⌜ r ≡ pick test number 0 ⌝ }
+    {
+        if test { number } else { 0 }
+    }
+
+    fn of_engine(engine: u64, awaits: bool, plays: bool, count: u64) -> Share
+        ensures { λ r. ⌜ r ≡ shareOf engine awaits plays count ⌝ }
+    {
+        Share {
+            engine,
+            waits: Share::given(awaits, 1),
+            plays: Share::given(plays, count),
+        }
+    }
+
+    fn none() -> Share
+        ensures { λ r. ⌜ r ≡ record { engine = 0; waits = 0; plays = 0 } ⌝ }
+    {
+        Share {
+            engine: 0,
+            waits: 0,
+            plays: 0,
+        }
+    }
+
+    fn of(i: Instruction) -> Share
+        requires { ⌜ i .engine < 4 ⌝ }
+        ensures { λ r. ⌜ r ≡ record { engine = engineOf i; waits = waitsFor (i .body); plays = playsFor (i .body) } ⌝ }
+    {
+        let body = i.body;
+        let marker = Engines::FIRST_MARKER + i.engine;
+        match body {
+            Body::Waveform(f) => Share::of_engine(
+                Engines::WAVEFORM,
+                f.op == EngineOp::WAIT_TRIGGER,
+                f.op == EngineOp::PLAY,
+                f.count.0,
+            ),
+            Body::Marker(f) => Share::of_engine(
+                marker,
+                f.op == EngineOp::WAIT_TRIGGER,
+                f.op == EngineOp::PLAY,
+                f.count.0,
+            ),
+            Body::Wait => Share::none(),
+            Body::LoadRepeat(_) => Share::none(),
+            Body::Repeat(_) => Share::none(),
+            Body::Cmp(_) => Share::none(),
+            Body::Goto(_) => Share::none(),
+            Body::Call(_) => Share::none(),
+            Body::Return(_) => Share::none(),
+            Body::Sync => Share::none(),
+            Body::Modulator(f) => Share::of_engine(
+                Engines::MODULATOR,
+                f.op == ModulatorFields::WAIT_TRIGGER,
+                f.op == ModulatorFields::MODULATE,
+                f.payload,
+            ),
+            Body::LoadCmp(_) => Share::none(),
+            Body::Prefetch(_) => Share::none(),
+            Body::Noop => Share::none(),
+        }
+    }
+}
+
+// WAIT: each of the six counts, one more.
+fn plus_one(waits: &mut [u64; 6])
+    requires { ⌜ Six (2 ^ 32) (now waits) ⌝ }
+    ensures { λ _. ⌜ now (waits .exit) ≡ plusOne (now (waits .entry)) ⌝ }
+{
+    let mut i = 0;
+    while i < Engines::COUNT {
+        waits[i] = waits[i] + 1;
+        i += 1;
+    }
+}
+
+// One dispatched word.
+fn count_word(word: u64, waits: &mut [u64; 6], totals: &mut [u64; 6])
+    requires { ⌜ Counted (2 ^ 31) (now waits) (now totals) ⌝ }
+    ensures { λ _. ⌜ CountedOne word (now (waits .entry)) (now (totals .entry)) (now (waits .exit)) (now (totals .exit)) ⌝ }
+{
+    let i = Instruction::spelled_by(word);
+    let body = i.body;
+    let share = Share::of(i);
+    let engine = share.engine as usize;
+    totals[engine] = totals[engine] + share.plays;
+    if body.code() == Body::WAIT {
+        plus_one(waits);
+        return;
+    }
+    waits[engine] = waits[engine] + share.waits;
+}
+
+// The words of a group, each in its turn.
+fn count_group(words: &[u64], from: usize, n: usize, waits: &mut [u64; 6], totals: &mut [u64; 6])
+    requires { ⌜ CanCount (now words) from n (now waits) (now totals) ⌝ }
+    ensures { λ _. ⌜ CountedAll (part from n (now (words .entry))) (now (waits .entry)) (now (totals .entry)) (now (waits .exit)) (now (totals .exit)) ⌝ }
+{
+    let mut i = 0;
+    while i < n {
+        count_word(words[from + i], waits, totals);
+        i += 1;
+    }
+}
+
+// The group writer: the words of a group, from the start of the part that is lent.
+fn write_group(words: &[u64], from: usize, n: usize, room: &mut [u64])
+    requires { ⌜ (from + n ≤ length (now words)) × (n ≤ length (now room)) ⌝ }
+    ensures { λ _. ⌜ now (room .exit) ≡ part from n (now (words .entry)) ++ drop n (now (room .entry)) ⌝ }
+{
+    let mut i = 0;
+    while i < n {
+        room[i] = words[from + i];
+        i += 1;
+    }
+}
+
+// The dispatcher: the group goes out whole, after the last dispatched word.
+pub fn dispatch(
+    words: &[u64],
+    from: usize,
+    n: usize,
+    trace: &mut [u64],
+    len: usize,
+    waits: &mut [u64; 6],
+    totals: &mut [u64; 6],
+)
+    requires { ⌜ CanDispatch (now words) from n (length (now trace)) len (now waits) (now totals) ⌝ }
+    ensures { λ _. ⌜ Dispatched (part from n (now (words .entry))) len (now (trace .entry)) (now (waits .entry)) (now (totals .entry)) (now (trace .exit)) (now (waits .exit)) (now (totals .exit)) ⌝ }
+{
+    count_group(words, from, n, waits, totals);
+    write_group(words, from, n, &mut trace[len..]);
+}
