@@ -59,7 +59,10 @@ judged number i = pick (eqb number 0) (Accepted i) (Refused (record { number = n
 unfoldable pub readingOf : ℕ → Reading
 readingOf word = pick (eqb word noopWord) (Accepted noop) (judged (formIn word) (spelledBy word))
 
--- the number of a reading: 0 is accepted
+-- the refusal of a reading; number 0 is accepted
+abbrev pub refusalOf : Reading → Refusal
+refusalOf (Accepted i) = record { number = 0 }
+refusalOf (Refused r) = r
+
 abbrev pub numberOf : Reading → ℕ
-numberOf (Accepted i) = 0
-numberOf (Refused r) = r .number
+numberOf reading = refusalOf reading .number

@@ -2,7 +2,7 @@
 // The word is judged by all its bits, never by its header alone.
 ghost use mathlib.Core.Path.{_≡_};
 ghost use lib.ListN.{getD};
-ghost use Rattle.reader.specs.Reading.{hasUnnamed, notItsOp, formIn, readingOf};
+ghost use Rattle.reader.specs.Reading.{refusalOf, hasUnnamed, notItsOp, formIn, readingOf};
 use instruction::Body;
 use instruction::EngineOp;
 use instruction::Instruction;
@@ -11,6 +11,18 @@ use instruction::Refusal;
 pub enum Reading {
     Accepted(Instruction),
     Refused(Refusal),
+}
+
+impl Reading {
+    // The refusal; number 0 where the word was accepted.
+    pub fn refusal(self) -> Refusal
+        ensures { λ r. ⌜ r ≡ refusalOf self ⌝ }
+    {
+        match self {
+            Reading::Accepted(_) => Refusal { number: 0 },
+            Reading::Refused(r) => r,
+        }
+    }
 }
 
 // The bits that each op code names; 13 to 15 are no codes, and name the header alone.

@@ -1,0 +1,184 @@
+-- Laws of the step's definitions: what each comes to under its tests, and how an answer meets its promise.
+-- Assumes nothing.
+use mathlib.Core.Path.{_≡_, refl, sym, ap, _∙_, subst}
+use mathlib.Core.Bool.{Bool, true, false, _||_}
+use mathlib.Core.List.{List, [], _∷_}
+use Prim.Native.Nat.{ℕ, zero, suc, _+_, _-_, _^_, _≤_, _<_}
+use native.Mathlib.Decide.{ℕ-discrete}
+use native.Mathlib.Omega.{arith}
+use borrow.Author.Tests.{lt-ltb, le-ltb, le-leb, lt-leb, eq-eqb, ne-eqb}
+use lib.Dec.{ltb, eqb}
+use lib.ListN.{length, getD}
+use Rattle.instruction.specs.declared.Refusal.{Refusal}
+use Rattle.instruction.specs.declared.Instruction.{Instruction}
+use Rattle.reader.specs.Reading.{readingOf}
+use Rattle.reader.specs.declared.Reading.the-variants.{Accepted, Refused}
+use Rattle.sequence.specs.Placing.{placingOf}
+use Rattle.dispatch.specs.Trace.{put}
+use Rattle.dispatch.proofs.Lists.{put-none}
+use Rattle.dispatch.proofs.Counts.{picks, counted-more}
+use Rattle.machine.specs.State.{Fixed, Did, stateOf, withMessage, withCore, numbered, refusedBy, stop, moves, stopped, Done, Traced}
+use Rattle.machine.specs.Step.{nexts, acts, cleared, pushed, callOf, popped, returnOf, messageOf, holdOf, groupOf, sent, sendOf, engineOf, anyAbove, syncOf, actOf, breaksGroup, executeOf, withReading, stepOf}
+use Rattle.machine.specs.Kept.{At, Sends}
+use Rattle.machine.specs.declared.Core.{Core}
+use Rattle.machine.specs.declared.State.{State}
+use Rattle.machine.specs.declared.Stepped.{Stepped}
+
+-- ---- answers
+
+pub moved-done : {r : Stepped} {core : Core} {rs cs ws ts : List ℕ} → r ≡ stopped 0 core → Done (moves (stateOf core rs cs ws ts)) r rs cs ws ts
+moved-done {rs = rs} {cs = cs} {ws = ws} {ts = ts} e =
+    record { end = ap (λ (x : Stepped). x .end) e; state = ap (λ (x : Stepped). stateOf (x .core) rs cs ws ts) e }
+
+pub stopped-done : {r : Stepped} {n : ℕ} {core : Core} {rs cs ws ts : List ℕ} → r ≡ stopped n core → Done (stop n (stateOf core rs cs ws ts)) r rs cs ws ts
+stopped-done {rs = rs} {cs = cs} {ws = ws} {ts = ts} e =
+    record { end = ap (λ (x : Stepped). x .end) e; state = ap (λ (x : Stepped). stateOf (x .core) rs cs ws ts) e }
+
+pub refused-done : {q q′ : Refusal} {core : Core} {rs cs ws ts : List ℕ} → q ≡ q′ → Done (refusedBy q′ (stateOf core rs cs ws ts)) (record { end = q; core = core }) rs cs ws ts
+refused-done e = record { end = e; state = refl }
+
+-- an answer that dispatched nothing
+pub quiet : {d : Did} {r : Stepped} {rs cs ws ts : List ℕ} (k : ℕ) (t : List ℕ) → d .out ≡ [] → Done d r rs cs ws ts → Traced d k t t r rs cs ws ts
+quiet k t e d = record { done = d; trace = sym (put-none t k) ∙ ap (put t k) (sym e) }
+
+-- ---- flow
+
+pub call-not : (s : State) (a : ℕ) → acts (s .core .condition) ≡ false → callOf s a ≡ moves (withCore (nexts (cleared (s .core))) s)
+unfolding callOf
+call-not s a p = rw p
+
+pub call-full : (s : State) (a : ℕ) → acts (s .core .condition) ≡ true → 16 ≤ s .core .depth → callOf s a ≡ stop 31 s
+unfolding callOf
+call-full s a p h = rw (p, le-ltb (s .core .depth) 16 h)
+
+pub call-taken : (s : State) (a : ℕ) → acts (s .core .condition) ≡ true → s .core .depth < 16 → callOf s a ≡ moves (pushed s a)
+unfolding callOf
+call-taken s a p h = rw (p, lt-ltb (s .core .depth) 16 h)
+
+pub return-not : (s : State) → acts (s .core .condition) ≡ false → returnOf s ≡ moves (withCore (nexts (cleared (s .core))) s)
+unfolding returnOf
+return-not s p = rw p
+
+pub return-none : (s : State) → acts (s .core .condition) ≡ true → s .core .depth ≡ 0 → returnOf s ≡ stop 32 s
+unfolding returnOf
+return-none s p h = rw (p, h)
+
+pub return-taken : (s : State) → acts (s .core .condition) ≡ true → 0 < s .core .depth → returnOf s ≡ moves (popped s (s .core .depth - 1))
+unfolding returnOf
+return-taken s p h = rw (p, lt-ltb 0 (s .core .depth) h)
+
+pub message-none : (m : List ℕ) (s : State) → length m ≤ s .core .used → messageOf m s ≡ stop 42 s
+unfolding messageOf
+message-none m s h = rw (le-ltb (s .core .used) (length m) h)
+
+pub message-taken : (m : List ℕ) (s : State) → s .core .used < length m
+    → messageOf m s ≡ moves (withCore (nexts (withMessage (s .core .used + 1) (getD m (s .core .used) 0) (s .core))) s)
+unfolding messageOf
+message-taken m s h = rw (lt-ltb (s .core .used) (length m) h)
+
+-- ---- dispatch
+
+pub send-full : (e : Fixed) (s : State) → e .room < s .core .sent + (s .core .held + 1) → sendOf e s ≡ stop 43 s
+unfolding sendOf
+send-full e s h = rw (lt-leb (s .core .sent + (s .core .held + 1)) (e .room) h)
+
+pub send-whole : (e : Fixed) (s : State) → s .core .sent + (s .core .held + 1) ≤ e .room
+    → sendOf e s ≡ record { end = numbered 0; state = sent e s; out = groupOf e (s .core) }
+unfolding sendOf
+send-whole e s h = rw (le-leb (s .core .sent + (s .core .held + 1)) (e .room) h)
+
+pub engine-low : (e : Fixed) (s : State) (w : ℕ) → w ≡ 0 → engineOf e s w ≡ moves (withCore (holdOf (s .core)) s)
+unfolding engineOf
+engine-low e s w h = rw h
+
+pub engine-high : (e : Fixed) (s : State) (w : ℕ) → (w ≡ 0 → ⊥) → engineOf e s w ≡ sendOf e s
+unfolding engineOf
+engine-high e s w h = rw (ne-eqb w 0 h)
+
+pub sync-stops : (e : Fixed) (s : State) → anyAbove (e .setting .triggers) (s .waits) ≡ true → syncOf e s ≡ stop 41 s
+unfolding syncOf
+sync-stops e s h = rw h
+
+pub sync-sends : (e : Fixed) (s : State) → anyAbove (e .setting .triggers) (s .waits) ≡ false → syncOf e s ≡ sendOf e s
+unfolding syncOf
+sync-sends e s h = rw h
+
+-- ---- counts above the triggers given
+
+pub above-some : (t : ℕ) (l : List ℕ) (i : ℕ) → i < length l → t < getD l i 0 → anyAbove t l ≡ true
+above-some t [] i h g = absurd (omega arith)
+above-some t (x ∷ l) zero h g = rw (lt-ltb t x g)
+above-some t (x ∷ l) (suc i) h g = by (ltb t x) (above-some t l i (omega arith) g)
+  where
+    by : (b : Bool) → anyAbove t l ≡ true → (b || anyAbove t l) ≡ true
+    by true e = refl
+    by false e = e
+
+pub above-none : (t : ℕ) (l : List ℕ) → ((i : ℕ) → i < length l → getD l i 0 ≤ t) → anyAbove t l ≡ false
+above-none t [] h = refl
+above-none t (x ∷ l) h = rw (le-ltb t x (h 0 (omega arith))) (above-none t l (λ i g. h (suc i) (omega arith)))
+
+-- what held of every place before i holds of every place before the next
+pub next-place : (P : ℕ → Type 0) (i : ℕ) → ((j : ℕ) → j < i → P j) → P i → (j : ℕ) → j < i + 1 → P j
+next-place P i h p j l = by (ℕ-discrete j i)
+  where
+    by : Dec (j ≡ i) → P j
+    by (yes e) = subst P (sym e) p
+    by (no e) = h j (omega arith)
+
+-- ---- flow dispatches nothing
+
+pub call-quiet : (s : State) (a : ℕ) → callOf s a .out ≡ []
+unfolding callOf
+call-quiet s a = picks (λ (d : Did). d .out ≡ []) (acts (s .core .condition)) (λ _. picks (λ (d : Did). d .out ≡ []) (ltb (s .core .depth) 16) (λ _. refl) (λ _. refl)) (λ _. refl)
+
+pub return-quiet : (s : State) → returnOf s .out ≡ []
+unfolding returnOf
+return-quiet s = picks (λ (d : Did). d .out ≡ []) (acts (s .core .condition)) (λ _. picks (λ (d : Did). d .out ≡ []) (ltb 0 (s .core .depth)) (λ _. refl) (λ _. refl)) (λ _. refl)
+
+pub message-quiet : (m : List ℕ) (s : State) → messageOf m s .out ≡ []
+unfolding messageOf
+message-quiet m s = picks (λ (d : Did). d .out ≡ []) (ltb (s .core .used) (length m)) (λ _. refl) (λ _. refl)
+
+-- ---- what the functions ask, from what a state keeps
+
+pub sends-of : {e : Fixed} {s : State} → At e s → s .core .address .0 < 2 ^ 63 → Sends (e .words) (e .room) (s .core) (s .waits) (s .totals)
+sends-of {e} {s} a h =
+    let g = a .ready .good in
+    record {
+      holds = record { counts = record { address = h; steps = a .ready .steps }; held = g .held };
+      inside = a .inside;
+      behind = g .behind;
+      sent = g .sent;
+      engines = counted-more (s .core .steps - s .core .held) (2 ^ 30) (s .waits) (s .totals) (omega (arith, a .ready .steps)) (g .counts);
+    }
+
+-- ---- the step
+
+pub execute-placed : (e : Fixed) (s : State) (i : Instruction) (n : ℕ) → n ≡ placingOf (e .setting .wave .0) (length (e .words)) (i .body) → (n ≡ 0 → ⊥) → executeOf e s i ≡ stop n s
+unfolding executeOf
+execute-placed e s i n p h = rw (← p, ne-eqb n 0 h)
+
+pub execute-broken : (e : Fixed) (s : State) (i : Instruction) → placingOf (e .setting .wave .0) (length (e .words)) (i .body) ≡ 0
+    → breaksGroup (s .core .held) (i .write) (i .body) ≡ true → executeOf e s i ≡ stop 22 s
+unfolding executeOf
+execute-broken e s i p b = rw (p, b)
+
+pub execute-acts : (e : Fixed) (s : State) (i : Instruction) → placingOf (e .setting .wave .0) (length (e .words)) (i .body) ≡ 0
+    → breaksGroup (s .core .held) (i .write) (i .body) ≡ false → executeOf e s i ≡ actOf e s (i .write) (i .body)
+unfolding executeOf
+execute-acts e s i p b = rw (p, b)
+
+pub step-past : (e : Fixed) (s : State) → length (e .words) ≤ s .core .address .0 → stepOf e s ≡ stop 30 s
+unfolding stepOf
+step-past e s h = rw (le-ltb (s .core .address .0) (length (e .words)) h)
+
+pub step-refused : (e : Fixed) (s : State) (r : Refusal) → s .core .address .0 < length (e .words)
+    → readingOf (getD (e .words) (s .core .address .0) 0) ≡ Refused r → stepOf e s ≡ refusedBy r s
+unfolding stepOf withReading
+step-refused e s r h q = rw (lt-ltb (s .core .address .0) (length (e .words)) h, q)
+
+pub step-accepted : (e : Fixed) (s : State) (i : Instruction) → s .core .address .0 < length (e .words)
+    → readingOf (getD (e .words) (s .core .address .0) 0) ≡ Accepted i → stepOf e s ≡ executeOf e s i
+unfolding stepOf withReading
+step-accepted e s i h q = rw (lt-ltb (s .core .address .0) (length (e .words)) h, q)

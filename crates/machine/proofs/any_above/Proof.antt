@@ -1,0 +1,63 @@
+-- No count before place i is above.
+use mathlib.Core.Path.{_≡_, sym, subst}
+use Prim.Native.Nat.{ℕ, _-_, _<_, _≤_}
+use denote.Ref.{now}
+use native.Mathlib.Omega.{arith}
+use lib.ListN.{length, getD}
+use Rattle.machine.proofs.Laws.{above-some, above-none, next-place}
+use Rattle.machine.proofs.any_above.Statement.{statement}
+use Rattle.machine.proofs.any_above.Tie as tie
+
+abbrev Inv-loop : tie.InvT-loop
+Inv-loop triggers waits i₀ i = ((j : ℕ) → j < i → getD waits j 0 ≤ triggers) × (i ≤ 6)
+
+abbrev μ-loop : tie.MeasureT-loop
+μ-loop triggers waits i₀ i = 6 - i
+
+loop-holds : tie.Need-loop-holds Inv-loop μ-loop
+loop-holds c = (λ j h. absurd (omega arith), omega arith)
+
+mul-if1 : tie.Need-mul-if1 Inv-loop μ-loop
+mul-if1 c = omega arith
+
+element-copy-out-if1 : tie.Need-element-copy-out-if1 Inv-loop μ-loop
+element-copy-out-if1 c = omega arith
+
+returns : tie.Need-returns Inv-loop μ-loop
+returns c =
+    let a = c .before .before .before .before .args in
+    let k = c .before .before .before .loop in
+    sym (above-some (a .triggers) (now (a .waits)) (k .i) (omega (arith, c .before .before .before .before .pre, c .before .before .loop-test .taken)) (c .if1 .taken))
+
+add-i : tie.Need-add-i Inv-loop μ-loop
+add-i c = omega arith
+
+loop-less : tie.Need-loop-less Inv-loop μ-loop
+loop-less c = omega arith
+
+loop-again : tie.Need-loop-again Inv-loop μ-loop
+loop-again c =
+    let a = c .before .before .before .before .args in
+    let k = c .before .before .before .loop in
+    (next-place (λ (j : ℕ). getD (now (a .waits)) j 0 ≤ a .triggers) (k .i) (k .inv .0) (c .if1 .left), omega (arith, c .before .before .loop-test .taken))
+
+returns-2 : tie.Need-returns-2 Inv-loop μ-loop
+returns-2 c =
+    let a = c .before .before .args in
+    let k = c .before .loop in
+    sym (above-none (a .triggers) (now (a .waits)) (λ j h. k .inv .0 j (omega (arith, h, c .before .before .pre, c .loop-test .left))))
+
+pub any-above-spec : {M : Type 1} → statement M
+any-above-spec =
+    tie.close
+    (tie.spec
+    Inv-loop
+    μ-loop
+    loop-holds
+    mul-if1
+    element-copy-out-if1
+    returns
+    add-i
+    loop-less
+    loop-again
+    returns-2)

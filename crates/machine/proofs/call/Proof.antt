@@ -1,0 +1,96 @@
+-- By condition and depth.
+use borrow.Author.Tests.{not-true, not-false}
+use mathlib.Core.Path.{sym, ap, _∙_}
+use denote.Ref.{now}
+use native.Mathlib.Omega.{arith}
+use Rattle.machine.specs.State.{stateOf, withCondition, stopped}
+use Rattle.machine.specs.declared.Condition.the-variants.{Absent}
+use Rattle.machine.proofs.Laws.{moved-done, stopped-done, call-not, call-full, call-taken}
+use borrow.Author.Needs.{needs}
+use Rattle.machine.proofs.call.Statement.{statement}
+use Rattle.machine.proofs.call.Tie as tie
+
+acts-requires : tie.Need-acts-requires
+acts-requires c κs = search needs
+
+nexts-requires : tie.Need-nexts-requires
+nexts-requires c κs = search needs
+
+with-condition-requires : tie.Need-with-condition-requires
+with-condition-requires c κs = search needs
+
+moves-requires : tie.Need-moves-requires
+moves-requires c κs = search needs
+
+returns : tie.Need-returns
+returns c =
+    λ ws ts.
+    let a = c .before .before .before .before .before .args in
+    rw (call-not (stateOf (a .s) (now (a .returns)) (now (a .counters)) ws ts) (a .to .0) (sym (c .before .before .before .before .acts .ensures) ∙ not-true _ (c .before .before .before .if1 .taken)))
+    (moved-done (c .moves .ensures ∙ ap (stopped 0) (c .before .with-condition .ensures ∙ ap (withCondition Absent) (c .before .before .nexts .ensures))))
+
+stop-requires : tie.Need-stop-requires
+stop-requires c κs = search needs
+
+returns-2 : tie.Need-returns-2
+returns-2 c =
+    λ ws ts.
+    let a = c .before .before .before .before .args in
+    rw (call-full (stateOf (a .s) (now (a .returns)) (now (a .counters)) ws ts) (a .to .0) (sym (c .before .before .before .acts .ensures) ∙ not-false _ (c .before .before .if1 .left)) (c .before .if2 .taken))
+    (stopped-done (c .stop .ensures))
+
+add-returns : tie.Need-add-returns
+add-returns c = search needs
+
+mul-returns : tie.Need-mul-returns
+mul-returns c = search needs
+
+element-write-returns : tie.Need-element-write-returns
+element-write-returns c = search needs
+
+mul-counters : tie.Need-mul-counters
+mul-counters c = search needs
+
+element-write-counters : tie.Need-element-write-counters
+element-write-counters c = search needs
+
+add-deeper : tie.Need-add-deeper
+add-deeper c = search needs
+
+goes-requires : tie.Need-goes-requires
+goes-requires c κs = search needs
+
+with-condition-requires-2 : tie.Need-with-condition-requires-2
+with-condition-requires-2 c κs = search needs
+
+moves-requires-2 : tie.Need-moves-requires-2
+moves-requires-2 c κs = search needs
+
+returns-3 : tie.Need-returns-3
+returns-3 c =
+    λ ws ts.
+    let a = c .before .before .before .before .before .before .before .args in
+    rw (call-taken (stateOf (a .s) (now (a .returns)) (now (a .counters)) ws ts) (a .to .0) (sym (c .before .before .before .before .before .before .acts .ensures) ∙ not-false _ (c .before .before .before .before .before .if1 .left)) (c .before .before .before .before .if2 .left))
+    (moved-done (c .moves2 .ensures ∙ ap (stopped 0) (c .before .with-condition2 .ensures ∙ ap (withCondition Absent) (c .before .before .goes .ensures))))
+
+pub call-spec : {M : Type 1} → statement M
+call-spec =
+    tie.close
+    (tie.spec
+    acts-requires
+    nexts-requires
+    with-condition-requires
+    moves-requires
+    returns
+    stop-requires
+    returns-2
+    add-returns
+    mul-returns
+    element-write-returns
+    mul-counters
+    element-write-counters
+    add-deeper
+    goes-requires
+    with-condition-requires-2
+    moves-requires-2
+    returns-3)

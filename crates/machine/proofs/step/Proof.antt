@@ -1,0 +1,70 @@
+-- By the address, and by what the word reads as.
+use mathlib.Core.Path.{refl, sym, ap, _∙_}
+use denote.Ref.{now}
+use lib.ListN.{length}
+use Rattle.machine.specs.State.{fixedBy, stateOf}
+use Rattle.reader.specs.Reading.{refusalOf}
+use Rattle.machine.proofs.Laws.{quiet, stopped-done, refused-done, step-past, step-refused, step-accepted}
+use borrow.Author.Needs.{needs}
+use Rattle.machine.proofs.step.Statement.{statement}
+use Rattle.machine.proofs.step.Tie as tie
+
+stop-requires : tie.Need-stop-requires
+stop-requires c κs = search needs
+
+returns : tie.Need-returns
+returns c =
+    let a = c .before .before .before .before .before .args in
+    rw (step-past (fixedBy (now (a .words)) (now (a .messages)) (length (now (a .trace))) (a .setting)) (stateOf (a .s) (now (a .returns)) (now (a .counters)) (now (a .waits)) (now (a .totals))) (c .before .if1 .taken)) (quiet (a .s .sent) (now (a .trace)) refl (stopped-done (c .stop .ensures)))
+
+mul-read : tie.Need-mul-read
+mul-read c = search needs
+
+shared-slice-read-read : tie.Need-shared-slice-read-read
+shared-slice-read-read c = search needs
+
+read-requires : tie.Need-read-requires
+read-requires c κs = search needs
+
+enum-known-reading : tie.Need-enum-known-reading
+enum-known-reading c = search needs
+
+enum-told : tie.Need-enum-told
+enum-told c = search needs
+
+refusal-requires : tie.Need-refusal-requires
+refusal-requires c κs = search needs
+
+returns-2 : tie.Need-returns-2
+returns-2 c =
+    let a = c .before .before .before .before .before .before .before .before .before .args in
+    rw (step-refused (fixedBy (now (a .words)) (now (a .messages)) (length (now (a .trace))) (a .setting)) (stateOf (a .s) (now (a .returns)) (now (a .counters)) (now (a .waits)) (now (a .totals))) _ (c .before .before .before .before .before .if1 .left) (sym (c .before .before .before .read .ensures) ∙ c .before .enum-told .given .1))
+    (quiet (a .s .sent) (now (a .trace)) refl (refused-done (c .refusal .ensures ∙ ap refusalOf (c .before .enum-told .given .1))))
+
+execute-requires : tie.Need-execute-requires
+execute-requires c κs = record { ready = c .before .before .before .before .before .before .before .before .before .before .before .before .before .before .pre; inside = c .before .before .before .before .before .before .before .before .before .before .if1 .left }
+
+same-length : tie.Need-same-length
+same-length c = search needs
+
+returns-3 : tie.Need-returns-3
+returns-3 c =
+    let a = c .before .before .before .before .before .before .before .before .before .before .before .before .before .before .before .before .before .args in
+    rw (step-accepted (fixedBy (now (a .words)) (now (a .messages)) (length (now (a .trace))) (a .setting)) (stateOf (a .s) (now (a .returns)) (now (a .counters)) (now (a .waits)) (now (a .totals))) _ (c .before .before .before .before .before .before .before .before .before .before .before .before .before .if1 .left) (sym (c .before .before .before .before .before .before .before .before .before .before .before .read .ensures) ∙ c .before .before .before .before .before .before .before .before .before .reading .given .1)) (c .before .before .execute .ensures)
+
+pub step-spec : {M : Type 1} → statement M
+step-spec =
+    tie.close
+    (tie.spec
+    stop-requires
+    returns
+    mul-read
+    shared-slice-read-read
+    read-requires
+    enum-known-reading
+    enum-told
+    refusal-requires
+    returns-2
+    execute-requires
+    same-length
+    returns-3)

@@ -1,0 +1,51 @@
+-- What every state of a run keeps, so that no sum overflows and no index is out of range: what the step asks of its state.
+-- It holds of the fresh state and is kept by every step (proofs/Kept.antt).
+use Prim.Native.Nat.{ℕ, _+_, _-_, _^_, _≤_, _<_}
+use mathlib.Core.List.{List}
+use lib.ListN.{length}
+use Rattle.sequence.specs.Bounds.{stackDepth, budgetLimit, groupSize}
+use Rattle.dispatch.specs.Engines.{AllLe, Counted}
+use Rattle.machine.specs.State.{Fixed}
+use Rattle.machine.specs.declared.Core.{Core}
+use Rattle.machine.specs.declared.State.{State}
+
+pub record Good (e : Fixed) (s : State) : Type 0 where
+  pub address : s .core .address .0 ≤ length (e .words)
+  pub held : s .core .held < groupSize
+  pub behind : s .core .held ≤ s .core .address .0
+  pub counted : s .core .held ≤ s .core .steps
+  pub sent : s .core .sent ≤ e .room
+  pub depth : s .core .depth ≤ stackDepth
+  pub returns : AllLe (length (e .words)) (s .returns)
+  pub counts : Counted (s .core .steps - s .core .held) (s .waits) (s .totals)
+
+-- a step can be taken: one more still counts
+pub record Ready (e : Fixed) (s : State) : Type 0 where
+  pub good : Good e s
+  pub steps : s .core .steps < budgetLimit
+
+-- and there is a word to take
+pub record At (e : Fixed) (s : State) : Type 0 where
+  pub ready : Ready e s
+  pub inside : s .core .address .0 < length (e .words)
+
+-- what a core alone must be like for that
+pub record Counts (c : Core) : Type 0 where
+  pub address : c .address .0 < 2 ^ 63
+  pub steps : c .steps < budgetLimit
+
+pub record Holds (c : Core) : Type 0 where
+  pub counts : Counts c
+  pub held : c .held < groupSize
+
+pub record Returns (c : Core) : Type 0 where
+  pub counts : Counts c
+  pub depth : c .depth ≤ stackDepth
+
+-- a group that ends at the address can go out
+pub record Sends (words : List ℕ) (room : ℕ) (c : Core) (ws ts : List ℕ) : Type 0 where
+  pub holds : Holds c
+  pub inside : c .address .0 < length words
+  pub behind : c .held ≤ c .address .0
+  pub sent : c .sent ≤ room
+  pub engines : Counted (2 ^ 30) ws ts

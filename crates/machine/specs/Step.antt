@@ -1,0 +1,169 @@
+-- One step, as document 01 gives it: its order of tests, and what each instruction does. The budget is the run's.
+-- "Order of tests: budget (40); address n (30); form, 20, 21; 22; 31 or 32; 41; 42; 43."
+use Prim.Native.Nat.{ℕ, _+_, _-_}
+use mathlib.Core.Bool.{Bool, true, false, not, _||_, _&&_}
+use mathlib.Core.List.{List, [], _∷_}
+use lib.Dec.{ltb, eqb, leb}
+use lib.ListN.{length, getD, set}
+use Rattle.instruction.specs.Bits.{pick}
+use Rattle.instruction.specs.declared.Comparison.{Comparison}
+use Rattle.instruction.specs.declared.Instruction.{Instruction}
+use Rattle.instruction.specs.declared.Body.{Body}
+use Rattle.instruction.specs.declared.Body.the-variants.{Waveform, Marker, Wait, LoadRepeat, Repeat, Cmp, Goto, Call, Return, Sync, Modulator, LoadCmp, Prefetch, Noop}
+use Rattle.reader.specs.Reading.{readingOf}
+use Rattle.reader.specs.declared.Reading.{Reading}
+use Rattle.reader.specs.declared.Reading.the-variants.{Accepted, Refused}
+use Rattle.sequence.specs.Bounds.{stackDepth, groupSize}
+use Rattle.sequence.specs.Placing.{isEngine, placingOf}
+use Rattle.dispatch.specs.Engines.{waitsOver, totalsOver}
+use Rattle.dispatch.specs.Trace.{part}
+use Rattle.machine.specs.State.{Fixed, Did, stateOf, withCount, withMessage, withSent, withCounter, withCondition, withDepth, withCore, numbered, refusedBy, stop, moves}
+use Rattle.machine.specs.declared.Condition.{Condition}
+use Rattle.machine.specs.declared.Condition.the-variants.{Absent, Fails, Holds}
+use Rattle.machine.specs.declared.Core.{Core}
+use Rattle.machine.specs.declared.State.{State}
+
+-- the step is counted, and goes to an address, or to the next one
+abbrev pub goes : ℕ → Core → Core
+goes a c = withCount a (c .steps + 1) c
+
+abbrev pub nexts : Core → Core
+nexts c = goes (c .address .0 + 1) c
+
+-- ---- flow
+
+-- H3: "REPEAT with counter 0 goes on and leaves 0; otherwise lowers it by one and jumps."
+abbrev pub repeatOf : Core → ℕ → Core
+repeatOf c a = pick (eqb (c .counter) 0) (nexts c) (goes a (withCounter (c .counter - 1) c))
+
+-- H4: "CMP compares register (left) with mask now and leaves a condition, true or false"; code "0 =, 1 ≠, 2 >, 3 <"
+abbrev pub compares : ℕ → ℕ → ℕ → Bool
+compares code register mask =
+    pick (eqb code 0) (eqb register mask)
+    (pick (eqb code 1) (not (eqb register mask))
+    (pick (eqb code 2) (ltb mask register)
+    (ltb register mask)))
+
+abbrev pub compareOf : Core → Comparison → Core
+compareOf c x = nexts (withCondition (pick (compares (x .code) (c .register) (x .mask)) Holds Fails) c)
+
+-- H4: "false means go on to the next address. Without one they always act."
+abbrev pub acts : Condition → Bool
+acts Absent = true
+acts Fails = false
+acts Holds = true
+
+-- H4: "The next GOTO, CALL or RETURN executed uses it and clears it"
+abbrev pub cleared : Core → Core
+cleared c = withCondition Absent c
+
+abbrev pub gotoOf : Core → ℕ → Core
+gotoOf c a = pick (acts (c .condition)) (goes a (cleared c)) (nexts (cleared c))
+
+-- H5: "CALL pushes its own address + 1 and the repeat counter; the counter itself stays."
+abbrev pub pushed : State → ℕ → State
+pushed s a =
+    stateOf (goes a (cleared (withDepth (s .core .depth + 1) (s .core))))
+    (set (s .returns) (s .core .depth) (s .core .address .0 + 1)) (set (s .counters) (s .core .depth) (s .core .counter)) (s .waits) (s .totals)
+
+-- "31 CALL taken with 16 on the stack"
+unfoldable pub callOf : State → ℕ → Did
+callOf s a =
+    pick (acts (s .core .condition))
+    (pick (ltb (s .core .depth) stackDepth) (moves (pushed s a)) (stop 31 s))
+    (moves (withCore (nexts (cleared (s .core))) s))
+
+-- H5: "RETURN pops both"; unused entries of the stack are zero
+abbrev pub popped : State → ℕ → State
+popped s top =
+    stateOf (goes (getD (s .returns) top 0) (cleared (withDepth top (withCounter (getD (s .counters) top 0) (s .core)))))
+    (set (s .returns) top 0) (set (s .counters) top 0) (s .waits) (s .totals)
+
+-- "32 RETURN taken with none"
+unfoldable pub returnOf : State → Did
+returnOf s =
+    pick (acts (s .core .condition))
+    (pick (ltb 0 (s .core .depth)) (moves (popped s (s .core .depth - 1))) (stop 32 s))
+    (moves (withCore (nexts (cleared (s .core))) s))
+
+-- "LOAD_CMP takes the next message, or ends with 42."
+unfoldable pub messageOf : List ℕ → State → Did
+messageOf messages s =
+    pick (ltb (s .core .used) (length messages))
+    (moves (withCore (nexts (withMessage (s .core .used + 1) (getD messages (s .core .used) 0) (s .core))) s))
+    (stop 42 s)
+
+-- ---- dispatch
+
+-- "One with its write flag low is held"
+abbrev pub holdOf : Core → Core
+holdOf c = nexts (withSent (c .sent) (c .held + 1) c)
+
+-- "the next with it high sends the held ones and itself, in order, together"
+abbrev pub groupOf : Fixed → Core → List ℕ
+groupOf e c = part (c .address .0 - c .held) (c .held + 1) (e .words)
+
+abbrev pub sent : Fixed → State → State
+sent e s =
+    stateOf (nexts (withSent (s .core .sent + (s .core .held + 1)) 0 (s .core))) (s .returns) (s .counters)
+    (waitsOver (s .waits) (groupOf e (s .core))) (totalsOver (s .totals) (groupOf e (s .core)))
+
+-- "A group goes out whole or not at all (43)."
+unfoldable pub sendOf : Fixed → State → Did
+sendOf e s =
+    pick (leb (s .core .sent + (s .core .held + 1)) (e .room))
+    (record { end = numbered 0; state = sent e s; out = groupOf e (s .core) })
+    (stop 43 s)
+
+unfoldable pub engineOf : Fixed → State → ℕ → Did
+engineOf e s write = pick (eqb write 0) (moves (withCore (holdOf (s .core)) s)) (sendOf e s)
+
+-- H6: "SYNC ends with 41 while any engine's count exceeds the triggers given."
+abbrev pub anyAbove : ℕ → List ℕ → Bool
+anyAbove triggers [] = false
+anyAbove triggers (x ∷ waits) = ltb triggers x || anyAbove triggers waits
+
+unfoldable pub syncOf : Fixed → State → Did
+syncOf e s = pick (anyAbove (e .setting .triggers) (s .waits)) (stop 41 s) (sendOf e s)
+
+-- ---- the step
+
+-- what an instruction does that form, 20, 21 and 22 let through; "PREFETCH, NOOP and sync waits change nothing else."
+unfoldable pub actOf : Fixed → State → ℕ → Body → Did
+actOf e s write (Waveform f) = engineOf e s write
+actOf e s write (Marker f) = engineOf e s write
+actOf e s write Wait = sendOf e s
+actOf e s write (LoadRepeat n) = moves (withCore (nexts (withCounter (n .0) (s .core))) s)
+actOf e s write (Repeat a) = moves (withCore (repeatOf (s .core) (a .0)) s)
+actOf e s write (Cmp x) = moves (withCore (compareOf (s .core) x) s)
+actOf e s write (Goto a) = moves (withCore (gotoOf (s .core) (a .0)) s)
+actOf e s write (Call a) = callOf s (a .0)
+actOf e s write (Return p) = returnOf s
+actOf e s write Sync = syncOf e s
+actOf e s write (Modulator f) = engineOf e s write
+actOf e s write (LoadCmp p) = messageOf (e .messages) s
+actOf e s write (Prefetch a) = moves (withCore (nexts (s .core)) s)
+actOf e s write Noop = moves (withCore (nexts (s .core)) s)
+
+-- "22 is given when a group is held and the word is no engine word, or when seven are held and the word is low."
+abbrev pub breaksGroup : ℕ → ℕ → Body → Bool
+breaksGroup held write b = pick (isEngine b) (eqb held (groupSize - 1) && eqb write 0) (ltb 0 held)
+
+-- 20 and 21, then 22
+unfoldable pub executeOf : Fixed → State → Instruction → Did
+executeOf e s i =
+    pick (eqb (placingOf (e .setting .wave .0) (length (e .words)) (i .body)) 0)
+    (pick (breaksGroup (s .core .held) (i .write) (i .body)) (stop 22 s) (actOf e s (i .write) (i .body)))
+    (stop (placingOf (e .setting .wave .0) (length (e .words)) (i .body)) s)
+
+-- "The step takes the reading of the word apart at once: an instruction, or else the end with its number."
+unfoldable pub withReading : Fixed → State → Reading → Did
+withReading e s (Accepted i) = executeOf e s i
+withReading e s (Refused r) = refusedBy r s
+
+-- "30 past the last word"
+unfoldable pub stepOf : Fixed → State → Did
+stepOf e s =
+    pick (ltb (s .core .address .0) (length (e .words)))
+    (withReading e s (readingOf (getD (e .words) (s .core .address .0) 0)))
+    (stop 30 s)
