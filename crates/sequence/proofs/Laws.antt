@@ -1,7 +1,7 @@
 -- Laws of the sequence's definitions.
 -- Assumes nothing.
-use mathlib.Core.Path.{_≡_, sym, ap, _∙_}
-use mathlib.Core.Bool.{not}
+use mathlib.Core.Path.{_≡_, refl, sym, ap, _∙_}
+use mathlib.Core.Bool.{Bool, true, false, not}
 use Prim.Native.Nat.{ℕ, _+_, _-_, _≤_, _<_}
 use native.Mathlib.Decide.{decLt}
 use native.Mathlib.Omega.{arith}
@@ -12,7 +12,8 @@ use Rattle.instruction.specs.declared.MarkerFields.{MarkerFields}
 use Rattle.instruction.specs.declared.ModulatorFields.{ModulatorFields}
 use Rattle.instruction.specs.declared.Body.{Body}
 use Rattle.instruction.specs.declared.Body.the-variants.{Waveform, Marker, Wait, LoadRepeat, Repeat, Cmp, Goto, Call, Return, Sync, Modulator, LoadCmp, Prefetch, Noop}
-use Rattle.sequence.specs.Placing.{onEngine}
+use Rattle.instruction.specs.Bits.{pick}
+use Rattle.sequence.specs.Placing.{onEngine, outOfWave, outOfWords, placingOf}
 
 -- a sum is past a bound where its second part is more than is left of it
 pub past-sum : (w a c : ℕ) → a ≤ w → ltb (w - a) c ≡ not (leb (a + c) w)
@@ -40,3 +41,13 @@ on-engine P p q r s (Modulator f) = r f
 on-engine P p q r s (LoadCmp p′) = s
 on-engine P p q r s (Prefetch a) = s
 on-engine P p q r s Noop = s
+
+-- what is placed has its target, if it has one, within the words
+pub placed-words : (wave n : ℕ) (b : Body) → placingOf wave n b ≡ 0 → outOfWords n b ≡ false
+unfolding placingOf
+placed-words wave n b e = by (onEngine (outOfWave wave) (λ f. false) (λ f. false) false b) (outOfWords n b) e
+  where
+    by : (p q : Bool) → _≡_ {A = ℕ} (pick p 20 (pick q 21 0)) 0 → q ≡ false
+    by true q z = absurd (omega arith)
+    by false true z = absurd (omega arith)
+    by false false z = refl
