@@ -45,12 +45,17 @@ module _ (e : Fixed) (s : State) (g : Good e s) where
         → c .depth ≤ 16 → AllLe (length (e .words)) rs → Kept e s (moves (stateOf c rs cs (s .waits) (s .totals)))
     flows free c rs cs a k h t d r = record {
       good = record {
-        address = a; held = omega (arith, h, free); behind = omega (arith, h, free); counted = omega (arith, h, free); sent = subst (λ (n : ℕ). n ≤ e .room) (sym t) (g .sent);
-        depth = d; returns = r;
-        counts = counted-more (s .core .steps - s .core .held) (c .steps - c .held) (s .waits) (s .totals) (omega (arith, k, h)) (g .counts)
+        address = a;
+        held = omega (arith, h, free);
+        behind = omega (arith, h, free);
+        counted = omega (arith, h, free);
+        sent = subst (λ (n : ℕ). n ≤ e .room) (sym t) (g .sent);
+        depth = d;
+        returns = r;
+        counts = counted-more (s .core .steps - s .core .held) (c .steps - c .held) (s .waits) (s .totals) (omega (arith, k, h)) (g .counts);
       };
       sent = t ∙ sym (add-zero (s .core .sent));
-      steps = omega (arith, k)
+      steps = omega (arith, k);
     }
 
     module _ (free : s .core .held ≡ 0) where
@@ -76,9 +81,9 @@ module _ (e : Fixed) (s : State) (g : Good e s) where
       calls a h =
           picks (Kept e s) (acts (s .core .condition))
           (λ _. picks (Kept e s) (ltb (s .core .depth) 16)
-            (λ t. flows free _ _ _ h refl refl refl (omega (arith, ltb-true (s .core .depth) 16 t))
-              (all-set (length (e .words)) (s .returns) (s .core .depth) (s .core .address .0 + 1) ahead (g .returns)))
-            (λ _. stays (numbered 31)))
+          (λ t. flows free _ _ _ h refl refl refl (omega (arith, ltb-true (s .core .depth) 16 t))
+          (all-set (length (e .words)) (s .returns) (s .core .depth) (s .core .address .0 + 1) ahead (g .returns)))
+          (λ _. stays (numbered 31)))
           (λ _. to _ ahead refl refl refl refl)
 
       returns : Kept e s (returnOf s)
@@ -87,9 +92,9 @@ module _ (e : Fixed) (s : State) (g : Good e s) where
           let top : ℕ = s .core .depth - 1 in
           picks (Kept e s) (acts (s .core .condition))
           (λ _. picks (Kept e s) (ltb 0 (s .core .depth))
-            (λ t. flows free _ _ _ (all-get (length (e .words)) (s .returns) top (g .returns)) refl refl refl (omega (arith, g .depth))
-              (all-set (length (e .words)) (s .returns) top 0 (omega arith) (g .returns)))
-            (λ _. stays (numbered 32)))
+          (λ t. flows free _ _ _ (all-get (length (e .words)) (s .returns) top (g .returns)) refl refl refl (omega (arith, g .depth))
+          (all-set (length (e .words)) (s .returns) top 0 (omega arith) (g .returns)))
+          (λ _. stays (numbered 32)))
           (λ _. to _ ahead refl refl refl refl)
 
       takes : (m : List ℕ) → Kept e s (messageOf m s)
@@ -109,12 +114,17 @@ module _ (e : Fixed) (s : State) (g : Good e s) where
         picks (Kept e s) (leb (s .core .sent + (s .core .held + 1)) (e .room))
         (λ t. record {
           good = record {
-            address = omega arith; held = omega arith; behind = omega arith; counted = omega arith; sent = leb-true (s .core .sent + (s .core .held + 1)) (e .room) t;
-            depth = g .depth; returns = g .returns;
-            counts = counted-more (n + length (groupOf e (s .core))) (s .core .steps + 1 - 0) _ _ (omega (arith, group-length, g .counted)) c
+            address = omega arith;
+            held = omega arith;
+            behind = omega arith;
+            counted = omega arith;
+            sent = leb-true (s .core .sent + (s .core .held + 1)) (e .room) t;
+            depth = g .depth;
+            returns = g .returns;
+            counts = counted-more (n + length (groupOf e (s .core))) (s .core .steps + 1 - 0) _ _ (omega (arith, group-length, g .counted)) c;
           };
           sent = omega (arith, group-length);
-          steps = omega arith
+          steps = omega arith;
         })
         (λ _. stays (numbered 43))
 
@@ -126,11 +136,17 @@ module _ (e : Fixed) (s : State) (g : Good e s) where
     holds : s .core .held < 7 → Kept e s (moves (withCore (holdOf (s .core)) s))
     holds h = record {
       good = record {
-        address = omega arith; held = omega arith; behind = omega (arith, g .behind); counted = omega (arith, g .counted); sent = g .sent; depth = g .depth; returns = g .returns;
-        counts = counted-more (s .core .steps - s .core .held) (s .core .steps + 1 - (s .core .held + 1)) (s .waits) (s .totals) (omega (arith, g .counted)) (g .counts)
+        address = omega arith;
+        held = omega arith;
+        behind = omega (arith, g .behind);
+        counted = omega (arith, g .counted);
+        sent = g .sent;
+        depth = g .depth;
+        returns = g .returns;
+        counts = counted-more (s .core .steps - s .core .held) (s .core .steps + 1 - (s .core .held + 1)) (s .waits) (s .totals) (omega (arith, g .counted)) (g .counts);
       };
       sent = sym (add-zero (s .core .sent));
-      steps = omega arith
+      steps = omega arith;
     }
 
     engines : (w : ℕ) → (w ≡ 0 → s .core .held < 7) → Kept e s (engineOf e s w)
@@ -174,7 +190,7 @@ module _ (e : Fixed) (s : State) (g : Good e s) where
         let n : ℕ = placingOf (e .setting .wave .0) (length (e .words)) (i .body) in
         picks (Kept e s) (eqb n 0)
         (λ t. picks (Kept e s) (breaksGroup (s .core .held) (i .write) (i .body)) (λ _. stays (numbered 22))
-          (λ b. does (i .write) (i .body) (placed-words (e .setting .wave .0) (length (e .words)) (i .body) (eqb-true n 0 t)) b))
+        (λ b. does (i .write) (i .body) (placed-words (e .setting .wave .0) (length (e .words)) (i .body) (eqb-true n 0 t)) b))
         (λ _. stays (numbered n))
 
     reads : (q : Reading) → Kept e s (withReading e s q)
@@ -198,7 +214,12 @@ all-zero b (suc n) = (omega arith, all-zero b n)
 
 pub fresh-good : (e : Fixed) → Good e fresh
 fresh-good e = record {
-  address = omega arith; held = omega arith; behind = omega arith; counted = omega arith; sent = omega arith; depth = omega arith;
+  address = omega arith;
+  held = omega arith;
+  behind = omega arith;
+  counted = omega arith;
+  sent = omega arith;
+  depth = omega arith;
   returns = all-zero (length (e .words)) 16;
-  counts = record { waits = record { size = refl; small = all-zero 0 6 }; totals = record { size = refl; small = all-zero (0 * 2 ^ 32) 6 } }
+  counts = record { waits = record { size = refl; small = all-zero 0 6 }; totals = record { size = refl; small = all-zero (0 * 2 ^ 32) 6 } };
 }

@@ -1,0 +1,18 @@
+-- The fresh state, with the number.
+use mathlib.Core.Path.{ap}
+use Rattle.rehearsal.specs.declared.Answer.{Answer}
+use Rattle.machine.specs.State.{stateOf}
+use Rattle.machine.specs.declared.Core.{Core}
+use lib.ListN.{replicate}
+use borrow.Author.Needs.{needs}
+use Rattle.rehearsal.proofs.Answer.refused.Statement.{statement}
+use Rattle.rehearsal.proofs.Answer.refused.Tie as tie
+
+fresh-requires : tie.Need-fresh-requires
+fresh-requires c κs = search needs
+
+returns : tie.Need-returns
+returns c = ap {B = Answer} (λ (k : Core). record { end = record { number = c .before .args .number }; state = stateOf k (replicate 16 0) (replicate 16 0) (replicate 6 0) (replicate 6 0) }) (c .fresh .ensures)
+
+pub refused-spec : {M : Type 1} → statement M
+refused-spec = tie.close (tie.spec fresh-requires returns)

@@ -1,0 +1,145 @@
+// The rehearsal: a run without a module, for every list of words, waveform length, messages, triggers, trace and budget.
+// It takes exactly the steps that the instruction set gives.
+ghost use mathlib.Core.Path.{_≡_};
+ghost use lib.ListN.{length};
+ghost use Rattle.machine.specs.State.{fixedBy, stateOf, fresh, Traced};
+ghost use Rattle.rehearsal.specs.Run.{runOf, inputRefused, rehearse, Rehearsed, CanGo};
+use instruction::QuadSamples;
+use instruction::Refusal;
+use machine::Core;
+use machine::Setting;
+use machine::State;
+use machine::Stepped;
+use machine::step;
+use sequence::Sequence;
+
+// How the run ended and why, and the whole state then.
+pub struct Answer {
+    pub end: Refusal,
+    pub state: State,
+}
+
+impl Answer {
+    pub const BUDGET_SPENT: u64 = 40;
+
+    // Zeros beside an input number.
+    fn refused(number: u64) -> Answer
+        ensures { λ r. ⌜ r ≡ record { end = record { number = number }; state = fresh } ⌝ }
+    {
+        let core = Core::fresh();
+        let state = State {
+            core,
+            returns: [0; 16],
+            counters: [0; 16],
+            waits: [0; 6],
+            totals: [0; 6],
+        };
+        Answer {
+            end: Refusal { number },
+            state,
+        }
+    }
+}
+
+// 1, 2, 3, 5 or 0.
+fn input_refused(n: u64, wave: u64, budget: u64) -> u64
+    ensures { λ r. ⌜ r ≡ inputRefused n wave budget ⌝ }
+{
+    let lengths = Sequence::lengths_refused(n, wave);
+    if lengths != 0 {
+        return lengths;
+    }
+    if Sequence::BUDGET < budget {
+        return Sequence::TOO_MUCH_BUDGET;
+    }
+    0
+}
+
+// At most so many steps from a state on.
+fn go_on(
+    words: &[u64],
+    messages: &[u8],
+    trace: &mut [u64],
+    returns: &mut [u64; 16],
+    counters: &mut [u64; 16],
+    waits: &mut [u64; 6],
+    totals: &mut [u64; 6],
+    s: Core,
+    budget: u64,
+    setting: Setting,
+) -> Stepped
+    requires { ⌜ CanGo budget (fixedBy (now words) (now messages) (length (now trace)) setting) (stateOf s (now returns) (now counters) (now waits) (now totals)) ⌝ }
+    ensures { λ r. ⌜ Traced (runOf budget (fixedBy (now (words .entry)) (now (messages .entry)) (length (now (trace .entry))) setting) (stateOf s (now (returns .entry)) (now (counters .entry)) (now (waits .entry)) (now (totals .entry)))) (s .sent) (now (trace .entry)) (now (trace .exit)) r (now (returns .exit)) (now (counters .exit)) (now (waits .exit)) (now (totals .exit)) ⌝ }
+{
+    let mut at = s;
+    let mut left = budget;
+    while 0 < left {
+        let r = step(
+            words,
+            messages,
+            trace,
+            returns,
+            counters,
+            waits,
+            totals,
+            at,
+            setting,
+        );
+        let end = r.end.number;
+        if end != 0 {
+            return r;
+        }
+        let next = r.core;
+        at = next;
+        left = left - 1;
+    }
+    Stepped::stop(Answer::BUDGET_SPENT, at)
+}
+
+// The run: input numbers first, then steps from the fresh state until one stops or the budget is spent.
+pub fn run(
+    words: &[u64],
+    wave: QuadSamples,
+    messages: &[u8],
+    triggers: u32,
+    trace: &mut [u64],
+    budget: u64,
+) -> Answer
+    ensures { λ r. ⌜ Rehearsed (rehearse budget (fixedBy (now (words .entry)) (now (messages .entry)) (length (now (trace .entry))) (record { wave = wave; triggers = triggers }))) (now (trace .entry)) (now (trace .exit)) r ⌝ }
+{
+    let refused = input_refused(words.len() as u64, wave.0, budget);
+    if refused != 0 {
+        return Answer::refused(refused);
+    }
+    let setting = Setting {
+        wave,
+        triggers: triggers as u64,
+    };
+    let mut returns = [0; 16];
+    let mut counters = [0; 16];
+    let mut waits = [0; 6];
+    let mut totals = [0; 6];
+    let core = Core::fresh();
+    let r = go_on(
+        words,
+        messages,
+        trace,
+        &mut returns,
+        &mut counters,
+        &mut waits,
+        &mut totals,
+        core,
+        budget,
+        setting,
+    );
+    let end = r.end;
+    let last = r.core;
+    let state = State {
+        core: last,
+        returns,
+        counters,
+        waits,
+        totals,
+    };
+    Answer { end, state }
+}
