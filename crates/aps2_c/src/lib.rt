@@ -5,6 +5,9 @@ ghost use mathlib.Core.Bool.{false};
 ghost use lib.ListN.{length};
 ghost use Rattle.instruction.specs.Table.{bodyOf};
 ghost use Rattle.reader.specs.Reading.{readingOf};
+ghost use Rattle.machine.specs.State.{fixedBy};
+ghost use Rattle.rehearsal.specs.Run.{rehearse};
+ghost use Rattle.aps2_c.specs.Answer.{conditionOf, flatWith, Ran};
 ghost use Rattle.aps2_c.specs.Fields.{shownOf, fieldsOf, Read, isName, filledPast, valuesAsked, wishOf, Wrote};
 use instruction::Body;
 use instruction::Comparison;
@@ -17,8 +20,11 @@ use instruction::Refusal;
 use instruction::Repeats;
 use instruction::WaveformFields;
 use instruction::WordAddress;
+use machine::Condition;
 use reader::Reading;
 use reader::read;
+use rehearsal::Answer;
+use rehearsal::run;
 use writer::Written;
 use writer::write;
 
@@ -188,4 +194,101 @@ pub extern "C" fn aps2_write(fields: &[u64; 8], word: &mut [u64; 1]) -> u64
     let written = wish(fields);
     *word = [written.word];
     written.number
+}
+
+fn condition_of(c: Condition) -> u64
+    ensures { λ r. ⌜ r ≡ conditionOf c ⌝ }
+{
+    match c {
+        Condition::Absent => 0,
+        Condition::Fails => 1,
+        Condition::Holds => 2,
+    }
+}
+
+fn flat(condition: u64, a: Answer) -> [u64; 54]
+    ensures { λ r. ⌜ r ≡ flatWith condition a ⌝ }
+{
+    let state = a.state;
+    let c = state.core;
+    let w = state.waits;
+    let t = state.totals;
+    let r = state.returns;
+    let k = state.counters;
+    [
+        a.end.number,
+        c.address.0,
+        c.steps,
+        c.used,
+        c.sent,
+        w[0],
+        w[1],
+        w[2],
+        w[3],
+        w[4],
+        w[5],
+        t[0],
+        t[1],
+        t[2],
+        t[3],
+        t[4],
+        t[5],
+        c.counter,
+        c.register,
+        condition,
+        c.held,
+        c.depth,
+        r[0],
+        r[1],
+        r[2],
+        r[3],
+        r[4],
+        r[5],
+        r[6],
+        r[7],
+        r[8],
+        r[9],
+        r[10],
+        r[11],
+        r[12],
+        r[13],
+        r[14],
+        r[15],
+        k[0],
+        k[1],
+        k[2],
+        k[3],
+        k[4],
+        k[5],
+        k[6],
+        k[7],
+        k[8],
+        k[9],
+        k[10],
+        k[11],
+        k[12],
+        k[13],
+        k[14],
+        k[15],
+    ]
+}
+
+#[no_mangle]
+pub extern "C" fn aps2_run(
+    words: &[u64],
+    wave: u64,
+    messages: &[u8],
+    triggers: u32,
+    trace: &mut [u64],
+    budget: u64,
+    answer: &mut [u64; 54],
+) -> u64
+    ensures { λ r. ⌜ Ran (rehearse budget (fixedBy (now (words .entry)) (now (messages .entry)) (length (now (trace .entry))) (record { wave = record { 0 = wave }; triggers = triggers }))) (now (trace .entry)) (now (trace .exit)) (now (answer .exit)) r ⌝ }
+{
+    let a = run(words, QuadSamples(wave), messages, triggers, trace, budget);
+    let state = a.state;
+    let core = state.core;
+    let condition = core.condition;
+    *answer = flat(condition_of(condition), a);
+    a.end.number
 }
