@@ -21,6 +21,15 @@ uint64_t aps2_read(uint64_t word, uint64_t fields[8]);
    code that is none, 23, tested first, for a field too wide or anything but zero past the fields that its name has. */
 uint64_t aps2_write(const uint64_t fields[8], uint64_t word[1]);
 
+/* Runs a sequence without a module: n words, a waveform memory of `wave` quad-samples, messages, triggers, room for trace_len
+   dispatched words, at most `budget` steps. Returns how it ended: 1, 2, 3 or 5 for refused input (zeros beside it, the trace
+   untouched), a number of the word it stopped at, 10 to 22, a fault, 30 to 32, or 40 to 43. The trace then starts with what
+   was dispatched, and the rest of it is untouched. answer: 0 end, 1 address, 2 steps, 3 messages used, 4 trace length,
+   5-10 wait counts and 11-16 totals in quad-samples (waveform, markers 0 to 3, modulator), 17 repeat counter, 18 register,
+   19 condition (0 none, 1 false, 2 true), 20 held, 21 depth, 22-37 stack addresses, 38-53 stack counters. */
+uint64_t aps2_run(const uint64_t *words, size_t n, uint64_t wave, const uint8_t *messages, size_t messages_len,
+                  uint32_t triggers, uint64_t *trace, size_t trace_len, uint64_t budget, uint64_t answer[54]);
+
 #ifdef __cplusplus
 }
 #endif

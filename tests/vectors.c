@@ -1,5 +1,5 @@
 /* Cases from a separate implementation, one to a line on standard input, compared with the proved code.
-   The first line names the kind, `read` or `write`. Lists are parted by commas, words are hexadecimal. */
+   The first line names the kind: `read`, `write` or `run`. Lists are parted by commas, `-` is the empty list, words are hexadecimal. */
 #include "../include/aps2.h"
 #include "check.h"
 
@@ -26,6 +26,26 @@ static int more(void)
     while (next == ' ' || next == '\n')
         next = getchar();
     return next != -1;
+}
+
+/* The next list of the line into `list`; tells how many. */
+static size_t numbers(int base, uint64_t *list, size_t most)
+{
+    size_t n = 0;
+    while (next == ' ')
+        next = getchar();
+    if (next == '-') {
+        next = getchar();
+        return 0;
+    }
+    for (;;) {
+        uint64_t x = number(base);
+        if (n < most)
+            list[n++] = x;
+        if (next != ',')
+            return n;
+        next = getchar();
+    }
 }
 
 static void disagree(uint64_t line)
@@ -65,14 +85,46 @@ static void write_cases(void)
     family("vectors: write");
 }
 
+#define MOST 4096
+
+static uint64_t words[MOST], listed[MOST], dispatched[MOST], trace[MOST];
+static uint8_t messages[MOST];
+
+static void run_cases(void)
+{
+    while (more()) {
+        uint64_t wave = number(10), answer[54], expected[54];
+        size_t n = numbers(16, words, MOST), m = numbers(10, listed, MOST);
+        for (size_t i = 0; i < m; i++)
+            messages[i] = (uint8_t)listed[i];
+        uint64_t triggers = number(10), room = number(10), budget = number(10);
+        numbers(10, expected, 54);
+        size_t sent = numbers(16, dispatched, MOST);
+        for (size_t i = 0; i < MOST; i++)
+            trace[i] = i * 3 + 1;
+        int good = aps2_run(words, n, wave, messages, m, (uint32_t)triggers, trace, room, budget, answer) == expected[0];
+        for (int i = 0; i < 54; i++)
+            good &= answer[i] == expected[i];
+        for (size_t i = 0; i < MOST; i++)
+            good &= trace[i] == (i < sent ? dispatched[i] : i * 3 + 1);
+        compared++;
+        if (!good)
+            disagree(compared);
+    }
+    family("vectors: run");
+}
+
 int main(void)
 {
-    int kind = getchar();
+    int kind = getchar(), second = getchar();
+    next = second;
     while (next != '\n')
         next = getchar();
-    if (kind == 'r')
+    if (kind == 'w')
+        write_cases();
+    else if (second == 'e')
         read_cases();
     else
-        write_cases();
+        run_cases();
     return 0;
 }

@@ -1,0 +1,277 @@
+/* Runs, compared with the second program field by field and word by word: the document's cases, random sequences at many budgets,
+   rooms, messages and triggers around where they stop, the bounds of every input, and runs of the full million steps. */
+#include "../include/aps2.h"
+#include "../second/second.h"
+#include "sequences.h"
+
+#define MOST 65537
+#define ROOM 4096
+
+static uint64_t words[MOST], ours[54], theirs[54], our_trace[ROOM + 8], their_trace[ROOM + 8], old_trace[ROOM + 8];
+static uint8_t messages[64];
+
+/* How often each end was met, so that no family passes by never meeting one. */
+static uint64_t met[64];
+
+struct input {
+    size_t n, messages, room;
+    uint64_t wave, budget;
+    uint32_t triggers;
+};
+
+static void show(const struct input *in)
+{
+    printf("  n %llu, W %llu, messages %llu, triggers %u, room %llu, budget %llu; ended %llu, second %llu\n  words", (unsigned long long)in->n,
+           (unsigned long long)in->wave, (unsigned long long)in->messages, in->triggers, (unsigned long long)in->room,
+           (unsigned long long)in->budget, (unsigned long long)ours[0], (unsigned long long)theirs[0]);
+    for (size_t i = 0; i < in->n && i < 40; i++)
+        printf(" %llx", (unsigned long long)words[i]);
+    for (int i = 0; i < 54; i++)
+        if (ours[i] != theirs[i])
+            printf("\n  answer %d: %llu, second %llu", i, (unsigned long long)ours[i], (unsigned long long)theirs[i]);
+    printf("\n");
+}
+
+/* Both programs run; the answers, the traces and their tails are compared. */
+static uint64_t try_run(struct input in)
+{
+    for (size_t i = 0; i < ROOM + 8; i++)
+        our_trace[i] = their_trace[i] = old_trace[i];
+    for (int i = 0; i < 54; i++)
+        ours[i] = random64(), theirs[i] = random64();
+    uint64_t end = aps2_run(words, in.n, in.wave, messages, in.messages, in.triggers, our_trace, in.room, in.budget, ours);
+    uint64_t other = second_run(words, in.n, in.wave, messages, in.messages, in.triggers, their_trace, in.room, in.budget, theirs);
+    int good = end == other && ours[0] == end;
+    for (int i = 0; i < 54; i++)
+        good &= ours[i] == theirs[i];
+    for (size_t i = 0; i < ROOM + 8; i++)
+        good &= our_trace[i] == their_trace[i] && (i < ours[4] || our_trace[i] == old_trace[i]);
+    compared++;
+    met[end < 64 ? end : 0]++;
+    if (!good) {
+        if (!failed)
+            show(&in);
+        failed = 1;
+    }
+    return end;
+}
+
+static void fresh_messages(void)
+{
+    for (int i = 0; i < 64; i++)
+        messages[i] = (uint8_t)below(below(2) ? 4 : 256);
+}
+
+/* One sequence, and then every input a little less or more than what its run came to. */
+static void try_around(struct input in)
+{
+    try_run(in);
+    uint64_t steps = ours[2], used = ours[3], sent = ours[4];
+    struct input v = in;
+    for (uint64_t b = steps > 2 ? steps - 2 : 0; b <= steps + 1; b++)
+        v.budget = b, try_run(v);
+    v = in;
+    for (uint64_t r = sent > 9 ? sent - 9 : 0; r <= sent + 1 && r <= ROOM; r++)
+        v.room = r, try_run(v);
+    v = in;
+    for (uint64_t m = used ? used - 1 : 0; m <= used + 1 && m <= 64; m++)
+        v.messages = m, try_run(v);
+    v = in;
+    for (uint32_t t = 0; t < 4; t++)
+        v.triggers = t, try_run(v);
+}
+
+static void random_runs(void)
+{
+    for (int k = 0; k < 6000; k++) {
+        struct input in = { 1 + below(below(3) ? 24 : 6), below(20), below(3) ? 200 : below(20), below(9), below(4) ? 120 : below(6), (uint32_t)below(4) };
+        fresh_messages();
+        any_sequence(words, in.n, in.wave);
+        try_around(in);
+    }
+    family("run: random sequences, and inputs around where they stop");
+}
+
+/* Every sequence of up to three words over a small alphabet. */
+static void small_runs(void)
+{
+    static const uint64_t alphabet[] = {
+        OP(0, HIGH | UINT64_C(2) << 24), OP(0, UINT64_C(2) << 24), OP(1, HIGH | UINT64_C(1) << 46), OP(10, HIGH | UINT64_C(1) << 40 | 2),
+        OP(2, HIGH | UINT64_C(1) << 46), OP(9, HIGH | UINT64_C(2) << 46), OP(3, 2), OP(4, 0), OP(4, 1), OP(5, 0), OP(5, 1),
+        OP(6, 0), OP(6, 2), OP(7, 0), OP(7, 1), OP(7, 2), OP(8, 0), OP(11, 0), OP(12, 0), ~UINT64_C(0), OP(13, 0),
+    };
+    const int letters = sizeof alphabet / sizeof *alphabet;
+    fresh_messages();
+    for (int n = 1; n <= 3; n++)
+        for (int a = 0; a < letters; a++)
+            for (int b = 0; b < (n > 1 ? letters : 1); b++)
+                for (int c = 0; c < (n > 2 ? letters : 1); c++) {
+                    words[0] = alphabet[a], words[1] = alphabet[b], words[2] = alphabet[c];
+                    struct input in = { (size_t)n, 1, 3, 2, 40, 0 };
+                    try_run(in);
+                    in.triggers = 1, in.room = 40;
+                    try_run(in);
+                }
+    family("run: every sequence of up to three words over a small alphabet");
+}
+
+static void groups(void)
+{
+    for (uint64_t low = 0; low <= 9; low++)
+        for (int after = 0; after < 14; after++)
+            for (uint64_t room = 0; room <= 12; room++) {
+                size_t n = 0;
+                for (uint64_t i = 0; i < low; i++)
+                    words[n++] = OP(below(2) ? 0 : 1, (2 + below(3)) << 24 | below(2)) | 2;
+                words[n++] = after == 13 ? ~UINT64_C(0) : after == 0 ? OP(0, HIGH | UINT64_C(2) << 24) : after == 2 ? OP(2, HIGH | UINT64_C(1) << 46)
+                    : after == 9 ? OP(9, HIGH | UINT64_C(2) << 46) : after == 10 ? OP(10, HIGH | UINT64_C(1) << 40 | 9) : OP(after, after == 1 ? HIGH | 2 : 0);
+                words[n++] = OP(6, 0);
+                struct input in = { n, 0, room, 8, 60, 1 };
+                try_run(in);
+            }
+    family("run: groups of up to nine low words, with every kind of word after them, at every room");
+}
+
+/* A damaged word where it is met at once. */
+static void damaged(void)
+{
+    for (int k = 0; k < 20000; k++) {
+        words[0] = (below(3) ? any_word(0, 3, 8) : engine_word(8, 1)) ^ UINT64_C(1) << below(64);
+        if (below(2))
+            words[0] ^= UINT64_C(1) << (below(2) ? 28 + below(20) : below(64));
+        words[1] = OP(6, 2);
+        words[2] = OP(8, 0);
+        struct input in = { 3, below(2), 1, 8, 5, 0 };
+        try_run(in);
+    }
+    family("run: damaged words");
+}
+
+static void nests(void)
+{
+    for (size_t deep = 14; deep <= 18; deep++)
+        for (int back = 0; back < 3; back++) {
+            size_t n = 0;
+            for (; n < deep; n++)
+                words[n] = OP(7, n + 1);
+            if (back)
+                words[n++] = OP(5, back == 1 ? 0 : 1);
+            words[n++] = OP(8, 0);
+            words[n++] = OP(8, 0);
+            struct input in = { n, 0, 4, 0, 100, 0 };
+            try_around(in);
+        }
+    family("run: nests of calls around the stack's depth");
+}
+
+static void bounds(void)
+{
+    for (size_t i = 0; i < MOST; i++)
+        words[i] = OP(0, HIGH | UINT64_C(2) << 24 | 16777214);
+    static const size_t sizes[] = { 0, 1, 65535, 65536, 65537 };
+    static const uint64_t waves[] = { 0, 16777215, 16777216, 16777217, ~UINT64_C(0) }, budgets[] = { 0, 1, 2, 1000000, 1000001, ~UINT64_C(0) };
+    for (int i = 0; i < 5; i++)
+        for (int j = 0; j < 5; j++)
+            for (int k = 0; k < 6; k++) {
+                struct input in = { sizes[i], 0, ROOM, waves[j], budgets[k], (uint32_t)random64() };
+                try_run(in);
+                in.room = 0;
+                try_run(in);
+            }
+    words[65535] = OP(6, 65535);
+    words[0] = OP(6, 65535);
+    struct input far = { 65536, 0, 0, 0, 9, 0 };
+    try_run(far);
+    words[0] = OP(6, 65536);
+    try_run(far);
+    family("run: every input at its bounds and past them");
+}
+
+static void long_runs(void)
+{
+    static const uint64_t loops[][5] = {
+        { OP(6, 0) },
+        { OP(3, 65535), OP(4, 1), OP(6, 0) },
+        { OP(7, 2), OP(6, 0), OP(8, 0) },
+        { OP(5, 0), OP(6, 0), OP(6, 0) },
+        { OP(2, HIGH | UINT64_C(1) << 46), OP(6, 0) },
+    };
+    static const size_t sizes[] = { 1, 3, 3, 3, 2 };
+    for (int k = 0; k < 5; k++) {
+        for (size_t i = 0; i < sizes[k]; i++)
+            words[i] = loops[k][i];
+        struct input in = { sizes[k], 0, ROOM, 8, 1000000, 7 };
+        try_run(in);
+        in.budget = 999999;
+        try_run(in);
+    }
+    family("run: the full million steps");
+}
+
+/* A case of document 01: what is expected at some places of the answer. */
+static void expect(struct input in, const uint64_t *case_words, const uint64_t *places, size_t count)
+{
+    for (size_t i = 0; i < in.n; i++)
+        words[i] = case_words[i];
+    try_run(in);
+    for (size_t i = 0; i < count; i++)
+        if (ours[places[2 * i]] != places[2 * i + 1] && !failed++)
+            printf("  answer %llu: %llu, and the document says %llu\n", (unsigned long long)places[2 * i], (unsigned long long)ours[places[2 * i]], (unsigned long long)places[2 * i + 1]);
+}
+
+#define EXPECT(in, list, ...) \
+    do { \
+        const uint64_t places[] = { __VA_ARGS__ }; \
+        expect((struct input)in, list, places, sizeof places / sizeof *places / 2); \
+    } while (0)
+#define INPUT(...) { __VA_ARGS__ }
+
+static void worked(void)
+{
+    static const uint64_t p1[] = { UINT64_C(0x9100800000000000), UINT64_C(0x2100400000000000), UINT64_C(0x0100000004000001), UINT64_C(0x6000000000000000) };
+    static const uint64_t p5[] = { UINT64_C(0x3000000000000002), UINT64_C(0x0100000004000001), UINT64_C(0x4000000000000001), UINT64_C(0x6000000000000003) };
+    static const uint64_t p12[] = { OP(11, 0), OP(6, 0) };
+    static const uint64_t eight[] = { OP(0, UINT64_C(2) << 24), OP(0, UINT64_C(2) << 24), OP(0, UINT64_C(2) << 24), OP(0, UINT64_C(2) << 24),
+        OP(0, UINT64_C(2) << 24), OP(0, UINT64_C(2) << 24), OP(0, UINT64_C(2) << 24), OP(0, UINT64_C(2) << 24) };
+    static const uint64_t short_play[] = { OP(0, HIGH | UINT64_C(1) << 24) }, play[] = { OP(0, HIGH | UINT64_C(2) << 24) }, not_noop[] = { ~UINT64_C(0) - 1 };
+    EXPECT(INPUT(4, 0, 8, 5, 10, 0), p1, 0, 41, 1, 0, 2, 4, 4, 3, 11, 4, 5, 1, 6, 1, 7, 1, 8, 1, 9, 1, 10, 1);
+    EXPECT(INPUT(4, 0, 8, 5, 10, 1), p1, 0, 41, 2, 8, 4, 6, 11, 8);
+    EXPECT(INPUT(4, 0, 8, 5, 8, 1), p1, 0, 40, 2, 8);
+    EXPECT(INPUT(4, 0, 8, 5, 7, 0), p5, 0, 40, 1, 3, 4, 3, 11, 12, 17, 0);
+    messages[0] = 7;
+    EXPECT(INPUT(2, 1, 8, 0, 10, 0), p12, 0, 42, 2, 2, 18, 7);
+    EXPECT(INPUT(1, 0, 8, 9, 10, 0), short_play, 0, 16);
+    EXPECT(INPUT(1, 0, 8, 9, 10, 0), play, 0, 30, 1, 1, 4, 1);
+    EXPECT(INPUT(1, 0, 8, 9, 10, 0), not_noop, 0, 10);
+    EXPECT(INPUT(8, 0, 8, 9, 10, 0), eight, 0, 22, 1, 7, 20, 7);
+    EXPECT(INPUT(1, 0, 8, 9, 1000001, 0), play, 0, 5, 1, 0, 2, 0);
+    family("run: the cases of document 01");
+}
+
+static void all_met(void)
+{
+    static const int ends[] = { 1, 2, 3, 5, 10, 11, 12, 13, 14, 15, 16, 17, 18, 19, 20, 21, 22, 30, 31, 32, 40, 41, 42, 43 };
+    for (size_t i = 0; i < sizeof ends / sizeof *ends; i++) {
+        if (!met[ends[i]])
+            failed = 1, printf("  end %d was never met\n", ends[i]);
+        compared++;
+    }
+    family("run: every end was met");
+}
+
+int main(void)
+{
+    printf("seed %llu\n", (unsigned long long)seed);
+    for (size_t i = 0; i < ROOM + 8; i++)
+        old_trace[i] = random64();
+    worked();
+    small_runs();
+    groups();
+    damaged();
+    nests();
+    bounds();
+    random_runs();
+    long_runs();
+    all_met();
+    return 0;
+}
