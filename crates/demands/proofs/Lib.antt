@@ -1,2 +1,5 @@
 pub mod Fields
 pub mod Word
+pub mod Steps
+pub mod Runs
+pub mod Prefix

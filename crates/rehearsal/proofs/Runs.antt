@@ -7,7 +7,7 @@ use mathlib.Core.List.{List, [], _∷_, _++_, append-assoc, append-nil}
 use native.Mathlib.Nat.{add-zero, add-assoc, zero-add}
 use native.Mathlib.Numerals.{sub-one}
 use native.Mathlib.Omega.{arith}
-use borrow.Author.Tests.{eq-eqb, ne-eqb, eqb-false, lt-ltb, le-ltb, ltb-false}
+use borrow.Author.Tests.{eq-eqb, ne-eqb, eqb-true, eqb-false, lt-ltb, le-ltb, ltb-false}
 use lib.Dec.{ltb, eqb}
 use lib.ListN.{length, take, drop, length-append, length-take, length-drop}
 use lib.Seq.{take-append-seam, drop-append-add, drop-drop, length-take-le}
@@ -159,16 +159,16 @@ pub refused-none : (n wave budget : ℕ) → lengthsRefused n wave ≡ 0 → bud
 unfolding inputRefused
 refused-none n wave budget h l = rw (h, le-ltb budgetLimit budget l)
 
--- a budget that is not refused is within its limit
-pub budget-within : (n wave budget : ℕ) → inputRefused n wave budget ≡ 0 → budget ≤ budgetLimit
+-- what is not refused has good lengths and a budget within its limit
+pub input-good : (n wave budget : ℕ) → inputRefused n wave budget ≡ 0 → (lengthsRefused n wave ≡ 0) × (budget ≤ budgetLimit)
 unfolding inputRefused
-budget-within n wave budget e = by (eqb (lengthsRefused n wave) 0) refl (ltb budgetLimit budget) refl e
+input-good n wave budget e = by (eqb (lengthsRefused n wave) 0) refl (ltb budgetLimit budget) refl e
   where
     by : (p : Bool) → eqb (lengthsRefused n wave) 0 ≡ p → (q : Bool) → ltb budgetLimit budget ≡ q
-        → _≡_ {A = ℕ} (pick (not p) (lengthsRefused n wave) (pick q 5 0)) 0 → budget ≤ budgetLimit
+        → _≡_ {A = ℕ} (pick (not p) (lengthsRefused n wave) (pick q 5 0)) 0 → (lengthsRefused n wave ≡ 0) × (budget ≤ budgetLimit)
     by false h q l z = absurd (eqb-false (lengthsRefused n wave) 0 h z)
     by true h true l z = absurd (omega arith)
-    by true h false l z = ltb-false budgetLimit budget l
+    by true h false l z = (eqb-true (lengthsRefused n wave) 0 h, ltb-false budgetLimit budget l)
 
 -- ---- the whole run
 
@@ -181,7 +181,7 @@ unfolding rehearse
 rehearse-runs b e p = rw p
 
 pub can-go : (b : ℕ) (e : Fixed) → inputRefused (length (e .words)) (e .setting .wave .0) b ≡ 0 → CanGo b e fresh
-can-go b e p = record { good = fresh-good e; steps = omega (arith, budget-within (length (e .words)) (e .setting .wave .0) b p) }
+can-go b e p = record { good = fresh-good e; steps = omega (arith, input-good (length (e .words)) (e .setting .wave .0) b p .1) }
 
 pub rehearsed : (b : ℕ) (e : Fixed) {u v : List ℕ} {r : Stepped} {rs cs ws ts : List ℕ} → inputRefused (length (e .words)) (e .setting .wave .0) b ≡ 0
     → Traced (runOf b e fresh) 0 u v r rs cs ws ts → Rehearsed (rehearse b e) u v (record { end = r .end; state = stateOf (r .core) rs cs ws ts })

@@ -20,12 +20,12 @@ same-length : tie.Need-same-length
 same-length c = search needs
 
 returns : tie.Need-returns
-returns c = 
+returns c =
     let q = c .before .before .before .before .before .before .run .ensures in
     record {
       number = ap (λ (x : Answer). x .end .number) (q .answer);
       answer = c .flat .ensures ∙ ap (λ (k : ℕ). flatWith k (c .before .before .before .before .before .before .run .result)) (c .before .condition-of .ensures) ∙ ap flatOf (q .answer);
-      trace = record { answer = refl; trace = q .trace }
+      trace = record { answer = refl; trace = q .trace };
     }
 
 pub aps2-run-spec : {M : Type 1} → statement M

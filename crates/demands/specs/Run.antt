@@ -1,0 +1,79 @@
+-- What a run promises, for every sequence, checked or not.
+-- Demand 2: "down to the last dispatched word, counter and total". Demand 3: what was rehearsed is what the longer run starts with.
+use mathlib.Core.Path.{_≡_}
+use mathlib.Core.List.{List, [], _∷_, _++_}
+use Prim.Native.Nat.{ℕ, zero, suc, _+_, _≤_, _<_}
+use lib.Dec.{eqb}
+use lib.ListN.{getD}
+use Rattle.instruction.specs.Bits.{pick}
+use Rattle.instruction.specs.Table.{codeOf}
+use Rattle.instruction.specs.Word.{spelledBy}
+use Rattle.instruction.specs.declared.Instruction.{Instruction}
+use Rattle.instruction.specs.declared.Body.the-variants.{Wait}
+use Rattle.sequence.specs.Bounds.{budgetLimit}
+use Rattle.dispatch.specs.Engines.{engineCount, engineOf, waitsFor, playsFor}
+use Rattle.machine.specs.State.{Fixed}
+use Rattle.machine.specs.Step.{stepOf}
+use Rattle.machine.specs.declared.State.{State}
+use Rattle.rehearsal.specs.Run.{runOf, rehearse}
+
+-- ---- prefix
+
+-- "When messages are added at the end of the list, or triggers, room .. are raised"
+pub record Extends (e e′ : Fixed) : Type 0 where
+  pub words : e′ .words ≡ e .words
+  pub wave : e′ .setting .wave ≡ e .setting .wave
+  pub added : List ℕ
+  pub messages : e′ .messages ≡ e .messages ++ added
+  pub triggers : e .setting .triggers ≤ e′ .setting .triggers
+  pub room : e .room ≤ e′ .room
+
+-- "or .. budget are raised, the budget still allowed, all that was dispatched before still opens the list of what is dispatched now"
+abbrev pub Prefix : Type 0
+Prefix =
+    (e e′ : Fixed) (budget budget′ : ℕ) → Extends e e′ → budget ≤ budget′ → budget′ ≤ budgetLimit
+    → (more : List ℕ) × (rehearse budget′ e′ .out ≡ rehearse budget e .out ++ more)
+
+-- ---- totals and waits
+
+-- what a dispatched word adds to the total of engine k
+abbrev pub playedOn : ℕ → Instruction → ℕ
+playedOn k i = pick (eqb (engineOf i) k) (playsFor (i .body)) 0
+
+-- what it adds to the wait count of engine k; "WAIT adds one to all six"
+abbrev pub awaitedOn : ℕ → Instruction → ℕ
+awaitedOn k i = pick (eqb (codeOf (i .body)) (codeOf Wait)) 1 (pick (eqb (engineOf i) k) (waitsFor (i .body)) 0)
+
+-- a number summed over the words of a trace
+abbrev pub sumOver : (Instruction → ℕ) → List ℕ → ℕ
+sumOver number [] = 0
+sumOver number (w ∷ trace) = number (spelledBy w) + sumOver number trace
+
+-- H7: "Each total equals the sum taken over the trace."
+abbrev pub TotalsAreSums : Type 0
+TotalsAreSums =
+    (e : Fixed) (budget k : ℕ) → k < engineCount
+    → getD (rehearse budget e .state .totals) k 0 ≡ sumOver (playedOn k) (rehearse budget e .out)
+
+-- H6: each wait count is the one taken over the trace
+abbrev pub WaitsAreCounts : Type 0
+WaitsAreCounts =
+    (e : Fixed) (budget k : ℕ) → k < engineCount
+    → getD (rehearse budget e .state .waits) k 0 ≡ sumOver (awaitedOn k) (rehearse budget e .out)
+
+-- ---- steps
+
+-- "A step that stops so isn't counted and alters nothing."
+abbrev pub StopsStill : Type 0
+StopsStill =
+    (e : Fixed) (s : State) → (stepOf e s .end .number ≡ 0 → ⊥)
+    → (stepOf e s .state ≡ s) × (stepOf e s .out ≡ [])
+
+-- how many steps of a run moved
+unfoldable pub taken : ℕ → Fixed → State → ℕ
+taken zero e s = 0
+taken (suc budget) e s = pick (eqb (stepOf e s .end .number) 0) (1 + taken budget e (stepOf e s .state)) 0
+
+-- the steps counted are the steps taken
+abbrev pub StepsAreTaken : Type 0
+StepsAreTaken = (e : Fixed) (s : State) (budget : ℕ) → runOf budget e s .state .core .steps ≡ s .core .steps + taken budget e s
