@@ -1,7 +1,7 @@
 -- The 54 numbers in which C gets the answer of a run: 0 end, 1 address, 2 steps, 3 messages used, 4 trace length, 5 to 10 wait counts,
 -- 11 to 16 totals, 17 repeat counter, 18 register, 19 condition (0 none, 1 false, 2 true), 20 held, 21 depth, 22 to 37 stack addresses, 38 to 53 stack counters.
 use mathlib.Core.Path.{_≡_}
-use mathlib.Core.List.{List, [], _∷_, _++_}
+use mathlib.Core.List.{List, [], _∷_}
 use Prim.Native.Nat.{ℕ, zero, suc}
 use lib.ListN.{getD}
 use Rattle.machine.specs.State.{Did}

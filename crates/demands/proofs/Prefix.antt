@@ -1,11 +1,11 @@
 -- `prefix`: with more messages at the end, triggers or room, a step that moved moves the same; so what was dispatched opens what is dispatched now.
 -- Assumes nothing.
 use mathlib.Core.Path.{_≡_, refl, sym, ap, ap₂, _∙_, subst}
-use mathlib.Core.Bool.{Bool, true, false, not, _||_}
-use mathlib.Core.List.{List, [], _∷_, _++_, append-assoc, append-nil}
-use Prim.Native.Nat.{ℕ, zero, suc, _+_, _-_, _≤_, _<_}
+use mathlib.Core.Bool.{Bool, true, false, _||_}
+use mathlib.Core.List.{List, [], _∷_, _++_, append-assoc}
+use Prim.Native.Nat.{ℕ, zero, suc, _+_, _≤_, _<_}
 use native.Mathlib.Omega.{arith}
-use borrow.Author.Tests.{ltb-true, ltb-false, lt-ltb, le-ltb, leb-true, leb-false, le-leb, eqb-true, eqb-false, eq-eqb, ne-eqb}
+use borrow.Author.Tests.{ltb-true, ltb-false, le-ltb, leb-true, leb-false, eqb-true, eqb-false}
 use lib.Dec.{ltb, eqb, leb}
 use lib.ListN.{length, getD, length-append, List·getD-append}
 use Rattle.instruction.specs.Bits.{pick}
@@ -19,7 +19,7 @@ use Rattle.reader.specs.declared.Reading.the-variants.{Accepted, Refused}
 use Rattle.sequence.specs.Placing.{placingOf}
 use Rattle.sequence.specs.Bounds.{lengthsRefused}
 use Rattle.machine.specs.State.{Fixed, Did, fresh, stop}
-use Rattle.machine.specs.Step.{messageOf, groupOf, sendOf, engineOf, anyAbove, syncOf, actOf, breaksGroup, executeOf, withReading, stepOf}
+use Rattle.machine.specs.Step.{messageOf, sendOf, engineOf, anyAbove, syncOf, actOf, breaksGroup, executeOf, stepOf}
 use Rattle.machine.specs.declared.State.{State}
 use Rattle.machine.proofs.Laws.{message-none, message-taken, send-full, send-whole, engine-low, engine-high, sync-stops, sync-sends, execute-placed, execute-broken, execute-acts, step-past, step-refused, step-accepted}
 use Rattle.rehearsal.specs.Run.{onto, thenDid, runOf, inputRefused, rehearse}

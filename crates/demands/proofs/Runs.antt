@@ -1,27 +1,27 @@
 -- Runs: the steps counted, the totals and waits over the trace, and `prefix`, by one law of one step and one of iteration.
 -- Assumes nothing.
-use mathlib.Core.Path.{_≡_, refl, sym, ap, ap₂, _∙_, subst}
-use mathlib.Core.Bool.{Bool, true, false, not, _||_}
-use mathlib.Core.List.{List, [], _∷_, _++_, map, append-assoc, append-nil}
-use Prim.Native.Nat.{ℕ, zero, suc, _+_, _-_, _≤_, _<_}
+use mathlib.Core.Path.{_≡_, refl, sym, ap, _∙_, subst}
+use mathlib.Core.Bool.{Bool, true, false}
+use mathlib.Core.List.{List, [], _∷_, _++_}
+use Prim.Native.Nat.{ℕ, zero, suc, _+_, _<_}
 use native.Mathlib.Nat.{add-zero, zero-add, add-assoc}
 use native.Mathlib.Decide.{ℕ-discrete}
 use native.Mathlib.Omega.{arith}
-use borrow.Author.Tests.{ltb-true, ltb-false, lt-ltb, le-ltb, leb-true, le-leb, eqb-true, eqb-false, eq-eqb, ne-eqb}
-use lib.Dec.{ltb, eqb, leb}
-use lib.ListN.{length, getD, set, replicate, length-append, length-set, length-map, List·getD-append}
+use borrow.Author.Tests.{eqb-true, eqb-false, eq-eqb, ne-eqb}
+use lib.Dec.{eqb}
+use lib.ListN.{length, getD, replicate, length-set, length-map}
 use lib.Seq.{getD-set-same, getD-set-other}
 use Rattle.instruction.specs.Bits.{pick}
 use Rattle.instruction.specs.Table.{codeOf}
 use Rattle.instruction.specs.Word.{spelledBy}
 use Rattle.instruction.specs.declared.Instruction.{Instruction}
 use Rattle.instruction.specs.declared.Body.the-variants.{Wait}
-use Rattle.dispatch.specs.Engines.{engineCount, engineOf, waitsFor, playsFor, addTo, plusOne, waitsAfter, totalsAfter, waitsOver, totalsOver}
+use Rattle.dispatch.specs.Engines.{engineOf, waitsFor, playsFor, addTo, plusOne, waitsAfter, totalsAfter, waitsOver, totalsOver}
 use Rattle.dispatch.proofs.Counts.{picks}
 use Rattle.machine.specs.State.{Fixed, Did, fresh, stop}
 use Rattle.machine.specs.Step.{stepOf}
 use Rattle.machine.specs.declared.State.{State}
-use Rattle.rehearsal.specs.Run.{onto, thenDid, runOf, inputRefused, rehearse}
+use Rattle.rehearsal.specs.Run.{onto, runOf, inputRefused, rehearse}
 use Rattle.demands.specs.Run.{playedOn, awaitedOn, sumOver, TotalsAreSums, WaitsAreCounts, taken, StepsAreTaken}
 use Rattle.demands.proofs.Steps.{Outcome, stops, flows, sends, outcome, stops-still}
 

@@ -1,11 +1,11 @@
 -- One step has three outcomes: it stops with a number and alters nothing, it moves and dispatches nothing, or it sends a group.
 -- What is promised of single steps follows from that. Assumes nothing.
-use mathlib.Core.Path.{_≡_, refl, sym, ap, _∙_, subst}
-use mathlib.Core.Bool.{Bool, true, false, not}
-use mathlib.Core.List.{List, [], _∷_}
-use Prim.Native.Nat.{ℕ, _+_, _-_, _<_}
+use mathlib.Core.Path.{_≡_, refl, ap, _∙_}
+use mathlib.Core.Bool.{Bool, true, false}
+use mathlib.Core.List.{List, []}
+use Prim.Native.Nat.{ℕ, _+_}
 use native.Mathlib.Omega.{arith}
-use borrow.Author.Tests.{eqb-false, eqb-true}
+use borrow.Author.Tests.{eqb-false}
 use lib.Dec.{ltb, eqb, leb}
 use lib.ListN.{length, getD}
 use Rattle.instruction.specs.Bits.{pick}
@@ -21,7 +21,7 @@ use Rattle.reader.specs.declared.Reading.the-variants.{Accepted, Refused}
 use Rattle.sequence.specs.Placing.{placingOf}
 use Rattle.dispatch.proofs.Counts.{picks}
 use Rattle.machine.specs.State.{Fixed, Did, stateOf, withCore, numbered, refusedBy, stop, moves}
-use Rattle.machine.specs.Step.{acts, repeatOf, gotoOf, compareOf, callOf, returnOf, messageOf, groupOf, sent, sendOf, engineOf, anyAbove, syncOf, actOf, breaksGroup, executeOf, withReading, stepOf}
+use Rattle.machine.specs.Step.{acts, callOf, returnOf, messageOf, groupOf, sent, sendOf, engineOf, anyAbove, syncOf, actOf, breaksGroup, executeOf, withReading, stepOf}
 use Rattle.machine.specs.declared.Core.{Core}
 use Rattle.machine.specs.declared.State.{State}
 use Rattle.demands.specs.Run.{StopsStill}

@@ -1,17 +1,16 @@
 -- Demand 2, the word, proved: `read-write` and `write-read`. A word of named bits alone is the sum of its fields, and both trips follow field by field.
 -- Assumes nothing.
-use mathlib.Core.Path.{_≡_, refl, sym, ap, ap₂, _∙_, subst}
+use mathlib.Core.Path.{_≡_, refl, sym, ap, _∙_}
 use mathlib.Core.Bool.{Bool, true, false, not, _&&_, _||_}
 use mathlib.Core.List.{List, [], _∷_}
-use Prim.Native.Nat.{ℕ, zero, suc, _+_, _-_, _*_, _/_, _%_, _^_, _<_, _≤_}
-use native.Mathlib.Nat.{add-assoc, zero-add, zero-mul, mod-eq-of-lt}
+use Prim.Native.Nat.{ℕ, zero, suc, _*_, _/_, _^_, _<_}
 use native.Mathlib.Decide.{ℕ-discrete, decLt}
 use native.Mathlib.Omega.{arith}
-use borrow.Author.Tests.{eq-eqb, ne-eqb, eqb-true, eqb-false, ltb-false, not-false}
+use borrow.Author.Tests.{eqb-true, not-false}
 use lib.Bits.{bitAnd}
-use lib.Dec.{ltb, eqb, lit<}
+use lib.Dec.{eqb, lit<}
 use lib.ListN.{getD, length, drop}
-use Rattle.instruction.specs.Bits.{pick, span, held, laid, heldIn, laidOnto, allFit}
+use Rattle.instruction.specs.Bits.{pick, span, held, laid, heldIn, allFit}
 use Rattle.instruction.specs.Table.{opCode, engineSelect, writeFlag, wholePayload, engineOp, payloadOf, codeOf, noopWord, isIgnored, valuesOf, bodyOf}
 use Rattle.instruction.specs.Form.{formOf}
 use Rattle.instruction.specs.Word.{codeIn, valuesIn, spelledBy, noop, wordOf, bodyFits, fitsOf}
@@ -22,7 +21,6 @@ use Rattle.instruction.specs.declared.Body.{Body}
 use Rattle.instruction.specs.declared.Body.the-variants.{Waveform, Marker, Wait, LoadRepeat, Repeat, Cmp, Goto, Call, Return, Sync, Modulator, LoadCmp, Prefetch, Noop}
 use Rattle.instruction.proofs.Laws.{fits-noop, fits-other, word-noop, word-other}
 use Rattle.reader.specs.Reading.{someBelow, hasUnnamed, notItsOp, formIn, readingOf}
-use Rattle.reader.specs.declared.Reading.{Reading}
 use Rattle.reader.specs.declared.Reading.the-variants.{Accepted, Refused}
 use Rattle.reader.proofs.Masks.{masks, none-below, no-stray, all-left}
 use Rattle.reader.proofs.Laws.{reads-noop, reads, refuses, form-10, form-11, form-12, form-rest}

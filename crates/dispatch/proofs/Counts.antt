@@ -1,7 +1,7 @@
 -- Laws of what the engines count: a word adds at most one wait and 2^32 quad-samples, to one of six engines.
 -- Assumes nothing.
-use Prim.Native.Nat.{ℕ, zero, suc, _+_, _*_, _%_, _^_, _≤_, _<_}
-use mathlib.Core.Path.{_≡_, refl, sym, ap, ap₂, _∙_}
+use Prim.Native.Nat.{ℕ, zero, suc, _+_, _*_, _^_, _≤_, _<_}
+use mathlib.Core.Path.{_≡_, refl, sym, ap₂, _∙_}
 use mathlib.Core.Bool.{Bool, true, false}
 use mathlib.Core.List.{List, [], _∷_, _++_}
 use native.Mathlib.Numerals.{add-one}
@@ -10,7 +10,7 @@ use borrow.Author.Tests.{eq-eqb, ne-eqb}
 use lib.Dec.{eqb}
 use lib.ListN.{length, getD, take, drop, length-set, length-map, length-drop}
 use lib.Seq.{take-suc, getD-drop}
-use Rattle.instruction.specs.Bits.{pick, held}
+use Rattle.instruction.specs.Bits.{pick}
 use Rattle.instruction.specs.Table.{codeOf, bodyOf}
 use Rattle.instruction.specs.Form.{plays, modulates}
 use Rattle.instruction.specs.Word.{codeIn, valuesIn, spelledBy}

@@ -1,12 +1,12 @@
 -- Laws of lists that are written place by place, and of lists whose numbers are all small.
 -- Assumes nothing.
-use Prim.Native.Nat.{ℕ, zero, suc, _+_, _-_, _*_, _≤_, _<_}
-use mathlib.Core.Path.{_≡_, refl, ap, sym, _∙_}
-use mathlib.Core.List.{List, [], _∷_, _++_, map, append-assoc, append-nil}
+use Prim.Native.Nat.{ℕ, zero, suc, _+_, _-_, _≤_, _<_}
+use mathlib.Core.Path.{_≡_, refl, sym}
+use mathlib.Core.List.{List, [], _∷_, _++_, append-assoc, append-nil}
 use native.Mathlib.Omega.{arith}
 use native.Mathlib.Numerals.{add-one}
 use native.Mathlib.Nat.{add-zero}
-use lib.ListN.{length, getD, set, take, drop, length-append, length-take, length-drop, length-map, drop-of-length-le, take-append-drop}
+use lib.ListN.{length, getD, set, take, drop, length-drop, length-map, drop-of-length-le, take-append-drop}
 use lib.Seq.{take-suc, drop-cons, set-at, getD-at, drop-drop, length-take-le, take-all}
 use Rattle.dispatch.specs.Engines.{AllLe, plusOne}
 use Rattle.dispatch.specs.Trace.{put}

@@ -1,6 +1,6 @@
 -- What the six engines count: trigger waits (H6) and quad-samples (H7), word by word as words are dispatched.
 -- A word counts by what its fields spell; every word that is dispatched has passed form.
-use Prim.Native.Nat.{ℕ, _+_, _*_, _^_, _≤_, _<_}
+use Prim.Native.Nat.{ℕ, _+_, _*_, _^_, _≤_}
 use mathlib.Core.Bool.{Bool}
 use mathlib.Core.Path.{_≡_}
 use mathlib.Core.List.{List, [], _∷_, map}

@@ -1,7 +1,7 @@
 -- The form numbers 13 to 19 of document 01, which an instruction alone decides: reader and writer give the same ones.
 -- "Form, from the word alone, lowest number wins."
 use Prim.Native.Nat.{ℕ, _%_, _^_}
-use mathlib.Core.Bool.{Bool, true, false, not, _||_, _&&_}
+use mathlib.Core.Bool.{Bool, false, not, _||_, _&&_}
 use lib.Dec.{ltb, eqb}
 use Rattle.instruction.specs.Bits.{_gives_else_}
 use Rattle.instruction.specs.declared.WaveformFields.{WaveformFields}

@@ -5,7 +5,7 @@ use mathlib.Core.Bool.{Bool, _||_}
 use mathlib.Core.List.{List, [], _∷_}
 use lib.Dec.{eqb}
 use lib.ListN.{getD}
-use Rattle.instruction.specs.Bits.{_to_, pick}
+use Rattle.instruction.specs.Bits.{_to_}
 use Rattle.instruction.specs.declared.Field.{Field}
 use Rattle.instruction.specs.declared.WaveformFields.{WaveformFields}
 use Rattle.instruction.specs.declared.MarkerFields.{MarkerFields}

@@ -7,7 +7,6 @@ use lib.Dec.{eqb}
 use lib.ListN.{getD}
 use Rattle.instruction.specs.Bits.{pick, held, heldIn, laid, laidOnto, allFit}
 use Rattle.instruction.specs.Table.{opCode, engineSelect, writeFlag, payloadOf, codeOf, isNoop, isIgnored, noopWord, valuesOf, bodyOf}
-use Rattle.instruction.specs.declared.Field.{Field}
 use Rattle.instruction.specs.declared.Body.{Body}
 use Rattle.instruction.specs.declared.Body.the-variants.{Noop}
 use Rattle.instruction.specs.declared.Instruction.{Instruction}

@@ -1,7 +1,7 @@
 // The instruction: its units, its fields with their places and widths, and the form numbers that it alone decides.
 // Reader and writer judge words and wishes by what stands here, so that both mean the same.
 ghost use mathlib.Core.Path.{_≡_};
-ghost use mathlib.Core.List.{List, [], _∷_};
+ghost use mathlib.Core.List.{[], _∷_};
 ghost use Prim.Native.Nat.{_+_, _≤_, _^_};
 ghost use Rattle.instruction.specs.Bits.{span, held, heldIn, laid, laidOnto, allFit};
 ghost use Rattle.instruction.specs.Table.{opCode, engineSelect, writeFlag, engineOp, target, repeatCount, wholePayload, payloadOf, codeOf, valuesOf, waveformOf, markerOf, comparisonOf, modulatorOf, bodyOf};

@@ -1,16 +1,15 @@
 -- What a step keeps: a good state stays good, the trace grows by what was dispatched, and at most one step is counted.
 -- Over the definitions alone. Assumes nothing.
 use Prim.Native.Nat.{ℕ, zero, suc, _+_, _-_, _*_, _^_, _≤_, _<_}
-use mathlib.Core.Path.{_≡_, refl, ap, sym, _∙_, subst}
+use mathlib.Core.Path.{_≡_, refl, sym, _∙_, subst}
 use mathlib.Core.Bool.{Bool, true, false, _&&_}
-use mathlib.Core.List.{List, [], _∷_}
+use mathlib.Core.List.{List}
 use native.Mathlib.Nat.{add-zero}
 use native.Mathlib.Omega.{arith}
 use borrow.Author.Tests.{ltb-true, ltb-false, leb-true, leb-false, eqb-true, eqb-false, eq-eqb}
 use lib.Dec.{ltb, eqb, leb}
-use lib.ListN.{length, getD, replicate, drop, length-drop, length-replicate}
+use lib.ListN.{length, getD, replicate, drop, length-drop}
 use lib.Seq.{length-take-le}
-use Rattle.instruction.specs.Bits.{pick}
 use Rattle.instruction.specs.declared.Refusal.{Refusal}
 use Rattle.instruction.specs.declared.Instruction.{Instruction}
 use Rattle.instruction.specs.declared.Body.{Body}
@@ -20,11 +19,11 @@ use Rattle.reader.specs.declared.Reading.{Reading}
 use Rattle.reader.specs.declared.Reading.the-variants.{Accepted, Refused}
 use Rattle.sequence.specs.Placing.{outOfWords, placingOf}
 use Rattle.sequence.proofs.Laws.{placed-words}
-use Rattle.dispatch.specs.Engines.{AllLe, Six, Counted}
+use Rattle.dispatch.specs.Engines.{AllLe}
 use Rattle.dispatch.proofs.Lists.{all-get, all-set}
 use Rattle.dispatch.proofs.Counts.{picks, counted-more, counted-over}
-use Rattle.machine.specs.State.{Fixed, Did, stateOf, fresh, withCore, numbered, refusedBy, stop, moves}
-use Rattle.machine.specs.Step.{goes, nexts, acts, cleared, repeatOf, compareOf, gotoOf, callOf, returnOf, messageOf, holdOf, groupOf, sendOf, engineOf, anyAbove, syncOf, actOf, breaksGroup, executeOf, withReading, stepOf}
+use Rattle.machine.specs.State.{Fixed, Did, stateOf, fresh, withCore, numbered, refusedBy, moves}
+use Rattle.machine.specs.Step.{acts, repeatOf, gotoOf, callOf, returnOf, messageOf, holdOf, groupOf, sendOf, engineOf, anyAbove, syncOf, actOf, breaksGroup, executeOf, withReading, stepOf}
 use Rattle.machine.specs.Kept.{Good}
 use Rattle.machine.specs.declared.Core.{Core}
 use Rattle.machine.specs.declared.State.{State}

@@ -1,6 +1,6 @@
 -- What every state of a run keeps, so that no sum overflows and no index is out of range: what the step asks of its state.
 -- It holds of the fresh state and is kept by every step (proofs/Kept.antt).
-use Prim.Native.Nat.{ℕ, _+_, _-_, _^_, _≤_, _<_}
+use Prim.Native.Nat.{ℕ, _-_, _^_, _≤_, _<_}
 use mathlib.Core.List.{List}
 use lib.ListN.{length}
 use Rattle.sequence.specs.Bounds.{stackDepth, budgetLimit, groupSize}

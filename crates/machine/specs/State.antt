@@ -1,6 +1,6 @@
 -- The state of a run, what stays fixed in it, and what a step did. Document 01, "One step".
 -- antt has no record update, so each field of the core has a function that sets it.
-use Prim.Native.Nat.{ℕ, _+_}
+use Prim.Native.Nat.{ℕ}
 use mathlib.Core.List.{List, []}
 use mathlib.Core.Path.{_≡_}
 use lib.ListN.{replicate}

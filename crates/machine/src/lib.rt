@@ -3,7 +3,7 @@
 ghost use mathlib.Core.Path.{_≡_};
 ghost use mathlib.Core.List.{List};
 ghost use Prim.Native.Nat.{ℕ, _+_, _<_};
-ghost use lib.ListN.{length, getD};
+ghost use lib.ListN.{length};
 ghost use Rattle.instruction.specs.Bits.{pick};
 ghost use Rattle.sequence.specs.Bounds.{budgetLimit};
 ghost use Rattle.dispatch.specs.Engines.{engineCount};

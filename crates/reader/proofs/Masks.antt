@@ -3,19 +3,18 @@
 use mathlib.Core.Path.{_≡_, refl, sym, ap, ap₂, _∙_}
 use mathlib.Core.Bool.{Bool, true, false, not, _||_, _&&_}
 use mathlib.Core.List.{List, [], _∷_}
-use Prim.Native.Nat.{ℕ, zero, suc, _+_, _*_, _/_, _%_, _^_, _<_, _≤_, min}
+use Prim.Native.Nat.{ℕ, zero, suc, _+_, _*_, _/_, _%_, _^_, _<_, min}
 use native.Mathlib.Nat.{div-one, div-add-mod', div-eq-of-lt, lt-of-lt-of-le, mod-lt}
 use native.Mathlib.Numerals.{one-add}
 use native.Mathlib.Omega.{arith}
 use native.Mathlib.Decide.{ℕ-discrete, decLt}
-use borrow.Author.Tests.{eq-eqb, ne-eqb, eqb-true, eqb-false}
+use borrow.Author.Tests.{eqb-true, eqb-false}
 use lib.Arith.{bin-ind}
 use lib.Bits.{bitAnd, and-shr, and-step, and-zero-l, and-zero-r, and-mod}
 use lib.Dec.{eqb}
 use lib.ListN.{getD}
-use lib.Pow.{shr-shr, pow-pos, pow-mono}
-use Rattle.instruction.specs.Bits.{isSet, held}
-use Rattle.instruction.specs.Table.{opCode}
+use lib.Pow.{shr-shr, pow-mono}
+use Rattle.instruction.specs.Bits.{isSet}
 use Rattle.instruction.specs.Word.{codeIn}
 use Rattle.reader.specs.Reading.{someBelow, isNamed, hasUnnamed}
 

@@ -1,7 +1,7 @@
 -- What a word reads as: one instruction, or a form number. Document 01, "The word" and "Numbers given back".
 -- What only a word can have wrong is judged here (10, 11, 12); 13 to 19 are the instruction's.
 use Prim.Native.Nat.{ℕ, zero, suc}
-use mathlib.Core.Bool.{Bool, true, false, not, _||_, _&&_}
+use mathlib.Core.Bool.{Bool, false, not, _||_, _&&_}
 use mathlib.Core.List.{List, [], _∷_}
 use lib.Dec.{eqb, leb}
 use Rattle.instruction.specs.Bits.{pick, _gives_else_, isSet, isIn, held}

@@ -1,7 +1,6 @@
 // Reading: every 64-bit word is one instruction or has one form number.
 // The word is judged by all its bits, never by its header alone.
 ghost use mathlib.Core.Path.{_≡_};
-ghost use lib.ListN.{getD};
 ghost use Rattle.reader.specs.Reading.{refusalOf, hasUnnamed, notItsOp, formIn, readingOf};
 use instruction::Body;
 use instruction::EngineOp;

@@ -3,7 +3,7 @@
 use Prim.Native.Nat.{ℕ, zero, suc, _+_, _-_, _≤_, _<_}
 use mathlib.Core.Path.{_≡_, refl, ap, sym, _∙_, subst}
 use mathlib.Core.Bool.{Bool, true, false, not}
-use mathlib.Core.List.{List, [], _∷_, _++_, append-assoc, append-nil}
+use mathlib.Core.List.{List, [], _++_, append-assoc, append-nil}
 use native.Mathlib.Nat.{add-zero, add-assoc, zero-add}
 use native.Mathlib.Numerals.{sub-one}
 use native.Mathlib.Omega.{arith}
@@ -16,13 +16,13 @@ use Rattle.instruction.specs.declared.Refusal.{Refusal}
 use Rattle.sequence.specs.Bounds.{budgetLimit, lengthsRefused}
 use Rattle.dispatch.specs.Trace.{put}
 use Rattle.dispatch.proofs.Lists.{put-none}
-use Rattle.machine.specs.State.{Fixed, fixedBy, Did, stateOf, fresh, stop, stopped, Done, Traced}
+use Rattle.machine.specs.State.{Fixed, fixedBy, Did, stateOf, fresh, stop, stopped, Traced}
 use Rattle.machine.specs.Step.{stepOf}
 use Rattle.machine.specs.Kept.{Good, Ready}
 use Rattle.machine.specs.declared.Setting.{Setting}
 use Rattle.machine.specs.declared.State.{State}
 use Rattle.machine.specs.declared.Stepped.{Stepped}
-use Rattle.machine.proofs.Kept.{Kept, kept, fresh-good}
+use Rattle.machine.proofs.Kept.{kept, fresh-good}
 use Rattle.rehearsal.specs.Run.{onto, thenDid, runOf, inputRefused, rehearse, Rehearsed, CanGo}
 
 -- ---- the trace, written again and again

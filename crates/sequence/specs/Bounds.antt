@@ -1,7 +1,6 @@
 -- The bounds of document 01, each named once, and the input numbers that they give.
 -- "Input refusals: 1 no words; 2 more than 65,536; 3 W too large; 4 marks shorter than the words (check only); 5 budget too large (run only); tested in that order."
 use Prim.Native.Nat.{ℕ}
-use mathlib.Core.Bool.{Bool}
 use lib.Dec.{ltb, eqb}
 use Rattle.instruction.specs.Bits.{_gives_else_}
 

@@ -1,9 +1,8 @@
 -- The first i words of the group are counted.
-use Prim.Native.Nat.{ℕ, _-_, _+_, _^_}
+use Prim.Native.Nat.{_-_, _+_, _^_}
 use mathlib.Core.Path.{_≡_}
 use denote.Ref.{now}
 use native.Mathlib.Omega.{arith}
-use borrow.Author.Needs.{needs}
 use Rattle.dispatch.proofs.Counts.{Along, along-start, along-next, counted-more}
 use Rattle.dispatch.proofs.count_group.Statement.{statement}
 use Rattle.dispatch.proofs.count_group.Tie as tie

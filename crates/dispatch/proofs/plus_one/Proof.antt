@@ -5,7 +5,6 @@ use mathlib.Core.Path.{_≡_, refl, ap, _∙_}
 use mathlib.Core.List.{List, _++_}
 use native.Mathlib.Omega.{arith}
 use lib.ListN.{length, getD, take, drop}
-use borrow.Author.Needs.{needs}
 use Rattle.dispatch.specs.Engines.{plusOne}
 use Rattle.dispatch.proofs.Lists.{all-get, plus-read, plus-next, plus-end}
 use Rattle.dispatch.proofs.plus_one.Statement.{statement}

@@ -1,9 +1,9 @@
 -- No count before place i is above.
-use mathlib.Core.Path.{_≡_, sym, subst}
+use mathlib.Core.Path.{sym}
 use Prim.Native.Nat.{ℕ, _-_, _<_, _≤_}
 use denote.Ref.{now}
 use native.Mathlib.Omega.{arith}
-use lib.ListN.{length, getD}
+use lib.ListN.{getD}
 use Rattle.machine.proofs.Laws.{above-some, above-none, next-place}
 use Rattle.machine.proofs.any_above.Statement.{statement}
 use Rattle.machine.proofs.any_above.Tie as tie

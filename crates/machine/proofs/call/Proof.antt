@@ -2,7 +2,6 @@
 use borrow.Author.Tests.{not-true, not-false}
 use mathlib.Core.Path.{sym, ap, _∙_}
 use denote.Ref.{now}
-use native.Mathlib.Omega.{arith}
 use Rattle.machine.specs.State.{stateOf, withCondition, stopped}
 use Rattle.machine.specs.declared.Condition.the-variants.{Absent}
 use Rattle.machine.proofs.Laws.{moved-done, stopped-done, call-not, call-full, call-taken}

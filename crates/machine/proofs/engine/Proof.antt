@@ -1,8 +1,6 @@
 -- By the write flag.
 use mathlib.Core.Path.{refl, ap, _∙_}
-use Prim.Native.Nat.{_+_}
 use denote.Ref.{now}
-use native.Mathlib.Omega.{arith}
 use lib.ListN.{length}
 use Rattle.machine.specs.State.{fixedBy, stateOf, stopped}
 use Rattle.machine.proofs.Laws.{quiet, moved-done, engine-low, engine-high}

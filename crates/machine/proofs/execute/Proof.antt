@@ -1,9 +1,8 @@
 -- Each return is where the tests before it failed and its own held.
-use mathlib.Core.Path.{refl, sym, ap, _∙_}
+use mathlib.Core.Path.{refl, sym, _∙_}
 use denote.Ref.{now}
 use lib.ListN.{length}
 use Rattle.machine.specs.State.{fixedBy, stateOf}
-use native.Mathlib.Decide.{ℕ-discrete}
 use Rattle.machine.proofs.Laws.{quiet, stopped-done, execute-placed, execute-broken, execute-acts}
 use borrow.Author.Needs.{needs}
 use Rattle.machine.proofs.execute.Statement.{statement}

@@ -1,5 +1,5 @@
 -- By what is left of the messages.
-use mathlib.Core.Path.{sym, ap, _∙_}
+use mathlib.Core.Path.{ap, _∙_}
 use Prim.Native.Nat.{ℕ, _+_}
 use denote.Ref.{now}
 use Rattle.machine.specs.State.{stateOf, withMessage, stopped}

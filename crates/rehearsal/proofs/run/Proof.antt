@@ -1,7 +1,5 @@
 -- Refused with zeros, or the loop from the fresh state.
 use mathlib.Core.Path.{refl, sym, _∙_, subst}
-use mathlib.Core.List.{List}
-use Prim.Native.Nat.{ℕ}
 use denote.Ref.{now}
 use lib.ListN.{length, replicate}
 use Rattle.machine.specs.State.{Fixed, fixedBy, stateOf, Traced}
