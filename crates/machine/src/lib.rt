@@ -78,10 +78,8 @@ impl Stepped {
     pub fn stop(number: u64, core: Core) -> Stepped
         ensures { λ r. ⌜ r ≡ stopped number core ⌝ }
     {
-        Stepped {
-            end: Refusal { number },
-            core,
-        }
+        let end = Refusal { number };
+        Stepped { end, core }
     }
 
     fn moves(core: Core) -> Stepped
@@ -173,8 +171,9 @@ impl Core {
         ensures { λ r. ⌜ r ≡ repeatOf self (to .0) ⌝ }
     {
         let counter = self.counter;
+        let on = WordAddress(self.address.0 + 1);
         if counter == 0 {
-            return self.nexts();
+            return self.goes(on);
         }
         self.counter = counter - 1;
         self.goes(to)
