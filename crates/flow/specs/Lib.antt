@@ -1,0 +1,3 @@
+pub mod Move
+pub mod Walk
+pub mod Masks
