@@ -1,4 +1,4 @@
--- Exact marks have one content, and flow has one verdict.
+-- The check has one answer: one verdict, and one content of the marks.
 -- Assumes nothing.
 use Prim.Native.Nat.{ℕ, _+_, _-_, _*_, _/_, _%_, _^_, _≤_, _<_}
 use mathlib.Core.Path.{_≡_, refl, sym, ap, ap₂, subst, _∙_}
@@ -17,6 +17,10 @@ use Rattle.flow.specs.Move.{moveAt}
 use Rattle.flow.specs.Walk.{On, Fault, past, full, empty}
 use Rattle.flow.proofs.Bits.{two, zero-off}
 use Rattle.walk.specs.Marks.{Exact}
+use Rattle.sequence.specs.Bounds.{stackDepth}
+use Rattle.verdict.specs.Words.{wordRefusal}
+use Rattle.verdict.specs.Check.{verdict, numbered, WordsAre, passed, first, CheckIs, input, word, flow}
+use Rattle.verdict.specs.declared.Verdict.{Verdict}
 use Rattle.verdict.specs.Flow.{FlowIs, sound, faulty}
 use Rattle.verdict.proofs.Laws.{some-on, place-of}
 
@@ -79,18 +83,18 @@ isCall (Enter t) = 1
 isCall Leave = 0
 isCall (Loop t) = 0
 
-numbered : (lim : ℕ) (ws : List ℕ) (k a : ℕ) → Fault lim ws k a → ((a ≡ length ws) × (k ≡ 30)) ⊎ ((a < length ws) × (k ≡ 32 - isCall (moveAt ws a)))
+number-at : (lim : ℕ) (ws : List ℕ) (k a : ℕ) → Fault lim ws k a → ((a ≡ length ws) × (k ≡ 30)) ⊎ ((a < length ws) × (k ≡ 32 - isCall (moveAt ws a)))
 unfolding isCall
-numbered lim ws k a (past _) = inl (refl, refl)
-numbered lim ws k a (full _ l o) = inr (l, ap (λ (z : Move). 32 - isCall z) (sym o))
-numbered lim ws k a (empty _ l o) = inr (l, ap (λ (z : Move). 32 - isCall z) (sym o))
+number-at lim ws k a (past _) = inl (refl, refl)
+number-at lim ws k a (full _ l o) = inr (l, ap (λ (z : Move). 32 - isCall z) (sym o))
+number-at lim ws k a (empty _ l o) = inr (l, ap (λ (z : Move). 32 - isCall z) (sym o))
 
 one-number : (lim : ℕ) (ws : List ℕ) (k j a : ℕ) → Fault lim ws k a → Fault lim ws j a → k ≡ j
 one-number lim ws k j a f g =
     ⊎-elim
-    (λ p. ⊎-elim (λ q. p .1 ∙ sym (q .1)) (λ q. let x = p .0 in let y = q .0 in absurd (omega arith)) (numbered lim ws j a g))
-    (λ p. ⊎-elim (λ q. let x = p .0 in let y = q .0 in absurd (omega arith)) (λ q. p .1 ∙ sym (q .1)) (numbered lim ws j a g))
-    (numbered lim ws k a f)
+    (λ p. ⊎-elim (λ q. p .1 ∙ sym (q .1)) (λ q. let x = p .0 in let y = q .0 in absurd (omega arith)) (number-at lim ws j a g))
+    (λ p. ⊎-elim (λ q. let x = p .0 in let y = q .0 in absurd (omega arith)) (λ q. p .1 ∙ sym (q .1)) (number-at lim ws j a g))
+    (number-at lim ws k a f)
 
 pub one-flow : (lim : ℕ) (ws : List ℕ) {k a j b : ℕ} → FlowIs lim ws k a → FlowIs lim ws j b → (k ≡ j) × (a ≡ b)
 one-flow lim ws (sound _) (sound _) = (refl, refl)
@@ -99,3 +103,33 @@ one-flow lim ws (faulty {number = k} {a = a} f _) (sound n) = absurd (n k a f)
 one-flow lim ws (faulty {number = k} {a = a} f l) (faulty {number = j} {a = b} g m) =
     let e : a ≡ b = le-antisymm (l j b g) (m k a f) in
     (one-number lim ws k j a f (subst (λ (z : ℕ). Fault lim ws j z) (sym e) g), e)
+
+-- the first word that is refused
+pub one-words : (wave : ℕ) (words : List ℕ) {v w : Verdict} → WordsAre wave words v → WordsAre wave words w → v ≡ w
+one-words wave words (passed _) (passed _) = refl
+one-words wave words (passed all) (first {a = b} k _ h) = absurd (h (all b k))
+one-words wave words (first {a = a} l _ h) (passed all) = absurd (h (all a l))
+one-words wave words (first {a = a} l below h) (first {a = b} k under g) = by (decLt a b) (decLt b a)
+  where
+    by : Dec (a < b) → Dec (b < a) → verdict (wordRefusal wave words a) a ≡ verdict (wordRefusal wave words b) b
+    by (yes p) q = absurd (h (under a p))
+    by (no p) (yes q) = absurd (g (below b q))
+    by (no p) (no q) = ap (λ (x : ℕ). verdict (wordRefusal wave words x) x) (same a b p q)
+      where
+        same : (a b : ℕ) → (a < b → ⊥) → (b < a → ⊥) → a ≡ b
+        same a b p q = omega arith
+
+-- The check gives one verdict and one content of marks. A lent buffer keeps its length.
+pub one-check : (wave : ℕ) (words marks : List ℕ) {v w : Verdict} {ns os : List ℕ} → length ns ≡ length os
+    → CheckIs wave words marks v ns → CheckIs wave words marks w os → (v ≡ w) × (ns ≡ os)
+one-check wave words marks e (input _) (input _) = (refl, refl)
+one-check wave words marks e (input h) (word z _ _) = absurd (h z)
+one-check wave words marks e (input h) (flow z _ _ _) = absurd (h z)
+one-check wave words marks e (word z _ _) (input h) = absurd (h z)
+one-check wave words marks e (word _ p _) (word _ q _) = (one-words wave words p q, refl)
+one-check wave words marks e (word _ p h) (flow _ all _ _) = absurd (h (ap (λ (x : Verdict). x .refusal .number) (one-words wave words p (passed all))))
+one-check wave words marks e (flow z _ _ _) (input h) = absurd (h z)
+one-check wave words marks e (flow _ all _ _) (word _ p h) = absurd (h (ap (λ (x : Verdict). x .refusal .number) (one-words wave words p (passed all))))
+one-check wave words marks {ns = ns} {os = os} e (flow _ _ m f) (flow _ _ k g) =
+    let o = one-flow stackDepth words f g in
+    (ap₂ (λ (x y : ℕ). verdict (numbered x) y) (o .0) (o .1), one-marks stackDepth words marks ns os e (m .exact) (k .exact) (m .tail) (k .tail))

@@ -1,12 +1,21 @@
-// The verdict on marked words: the fault of flow with the lowest address, or none.
+// The whole check: the input, then each word where it stands, then flow.
 // A fault at a word is read off its mark; what lies past the last word is asked for once, at the end.
 ghost use mathlib.Core.Path.{_≡_};
 ghost use Prim.Native.Nat.{_≤_};
+ghost use Prim.Native.Nat.{_<_, _+_, _-_};
+ghost use lib.ListN.{length, drop};
+ghost use Rattle.sequence.specs.Bounds.{groupSize};
 ghost use Rattle.verdict.specs.Flow.{faultIn, FlowIs, CanJudge};
+ghost use Rattle.verdict.specs.Words.{isEngineWord, isHigh, closes, leftOpen, standsRefused, wordRefusal};
+ghost use Rattle.verdict.specs.Check.{inputRefused, WordsAre, CheckIs};
 use flow::Mark;
 use flow::Move;
 use flow::Moves;
+use instruction::Instruction;
 use instruction::Refusal;
+use reader::Reading;
+use reader::read;
+use sequence::Sequence;
 
 // A refusal and its place; number 0 at place 0 is accepted.
 pub struct Verdict {
@@ -71,4 +80,137 @@ pub fn judge(words: &[u64], marks: &[u64], limit: u64) -> Verdict
         refusal: Refusal { number: 0 },
         place: 0,
     }
+}
+
+fn is_engine_word(word: u64) -> bool
+    ensures { λ r. ⌜ r ≡ isEngineWord word ⌝ }
+{
+    let i = Instruction::spelled_by(word);
+    let body = i.body;
+    Sequence::is_engine(body)
+}
+
+fn is_high(word: u64) -> bool
+    ensures { λ r. ⌜ r ≡ isHigh word ⌝ }
+{
+    let i = Instruction::spelled_by(word);
+    i.write != 0
+}
+
+// Whether a group that is open before an address is sent by a word at it or above, in time.
+fn closes_from(words: &[u64], from: usize) -> bool
+    ensures { λ r. ⌜ r ≡ closes (groupSize - 1) (drop from (now (words .entry))) ⌝ }
+{
+    let mut left: u64 = Sequence::GROUP - 1;
+    let mut at = from;
+    while 0 < left {
+        if words.len() <= at {
+            return false;
+        }
+        let word = words[at];
+        if !is_engine_word(word) {
+            return false;
+        }
+        if is_high(word) {
+            return true;
+        }
+        at += 1;
+        left -= 1;
+    }
+    false
+}
+
+// 22: a low word that no word sends.
+fn left_open(words: &[u64], above: usize, i: Instruction) -> bool
+    ensures { λ r. ⌜ r ≡ leftOpen i (drop above (now (words .entry))) ⌝ }
+{
+    let body = i.body;
+    let write = i.write;
+    if !Sequence::is_engine(body) {
+        return false;
+    }
+    if write != 0 {
+        return false;
+    }
+    !closes_from(words, above)
+}
+
+// 20, 21, 22 or 0, of an instruction with the words above it.
+fn stands_refused(words: &[u64], wave: u64, above: usize, i: Instruction) -> u64
+    ensures { λ r. ⌜ r ≡ standsRefused wave (length (now (words .entry))) (drop above (now (words .entry))) i ⌝ }
+{
+    let body = i.body;
+    let placing = Sequence::placing(wave, words.len() as u64, body);
+    if placing != 0 {
+        return placing;
+    }
+    if left_open(words, above, i) {
+        return Sequence::BROKEN_GROUP;
+    }
+    0
+}
+
+// The refusal of the word at an address; number 0 passes.
+fn word_refusal(words: &[u64], wave: u64, a: usize) -> Refusal
+    requires { ⌜ a < length (now words) ⌝ }
+    ensures { λ r. ⌜ r ≡ wordRefusal wave (now (words .entry)) a ⌝ }
+{
+    let reading = read(words[a]);
+    match reading {
+        Reading::Accepted(i) => Refusal {
+            number: stands_refused(words, wave, a + 1, i),
+        },
+        Reading::Refused(r) => r,
+    }
+}
+
+// The first word that is refused.
+fn judge_words(words: &[u64], wave: u64) -> Verdict
+    ensures { λ r. ⌜ WordsAre wave (now (words .entry)) r ⌝ }
+{
+    let mut a: usize = 0;
+    while a < words.len() {
+        let refusal = word_refusal(words, wave, a);
+        if refusal.number != 0 {
+            return Verdict { refusal, place: a };
+        }
+        a += 1;
+    }
+    Verdict {
+        refusal: Refusal { number: 0 },
+        place: 0,
+    }
+}
+
+// 1 to 4 or 0, for n words, a waveform memory and room for marks.
+fn input_refused(n: u64, wave: u64, room: u64) -> u64
+    ensures { λ r. ⌜ r ≡ inputRefused n wave room ⌝ }
+{
+    let lengths = Sequence::lengths_refused(n, wave);
+    if lengths != 0 {
+        return lengths;
+    }
+    if room < n {
+        return Sequence::SHORT_MARKS;
+    }
+    0
+}
+
+// Check.
+pub fn check(words: &[u64], wave: u64, marks: &mut [u64]) -> Verdict
+    ensures { λ r. ⌜ CheckIs wave (now (words .entry)) (now (marks .entry)) r (now (marks .exit)) ⌝ }
+{
+    let input = input_refused(words.len() as u64, wave, marks.len() as u64);
+    if input != 0 {
+        return Verdict {
+            refusal: Refusal { number: input },
+            place: 0,
+        };
+    }
+    let v = judge_words(words, wave);
+    if v.refusal.number != 0 {
+        return v;
+    }
+    walk::walk(words, marks, Sequence::STACK);
+    judge(words, marks, Sequence::STACK)
 }
