@@ -21,6 +21,12 @@ uint64_t aps2_read(uint64_t word, uint64_t fields[8]);
    code that is none, 23, tested first, for a field too wide or anything but zero past the fields that its name has. */
 uint64_t aps2_write(const uint64_t fields[8], uint64_t word[1]);
 
+/* Checks a sequence: n words, a waveform memory of `wave` quad-samples. Returns 0 at place 0 where it is accepted, 1 to 4 at
+   place 0 for refused input, a word's number, 10 to 22, at its address, or the fault of flow with the lowest address, 30 to 32.
+   The marks, at least n, are written once all words pass: bit 2d + c of mark a says that address a is reached at depth d, with
+   a condition held (c is 1) or not. What is past n is left as it was. */
+uint64_t aps2_check(const uint64_t *words, size_t n, uint64_t wave, uint64_t *marks, size_t marks_len, uint64_t place[1]);
+
 /* Runs a sequence without a module: n words, a waveform memory of `wave` quad-samples, messages, triggers, room for trace_len
    dispatched words, at most `budget` steps. Returns how it ended: 1, 2, 3 or 5 for refused input (zeros beside it, the trace
    untouched), a number of the word it stopped at, 10 to 22, a fault, 30 to 32, or 40 to 43. The trace then starts with what

@@ -8,6 +8,7 @@
 
 uint64_t second_read(uint64_t word, uint64_t fields[8]);
 uint64_t second_write(const uint64_t fields[8], uint64_t word[1]);
+uint64_t second_check(const uint64_t *words, size_t n, uint64_t wave, uint64_t *marks, size_t marks_len, uint64_t place[1]);
 uint64_t second_run(const uint64_t *words, size_t n, uint64_t wave, const uint8_t *messages, size_t messages_len, uint32_t triggers,
                     uint64_t *trace, size_t room, uint64_t budget, uint64_t answer[54]);
 

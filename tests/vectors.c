@@ -1,5 +1,5 @@
 /* Cases from a separate implementation, one to a line on standard input, compared with the proved code.
-   The first line names the kind: `read`, `write` or `run`. Lists are parted by commas, `-` is the empty list, words are hexadecimal. */
+   The first line names the kind: `read`, `write`, `check` or `run`. Lists are parted by commas, `-` is the empty list, words are hexadecimal. */
 #include "../include/aps2.h"
 #include "check.h"
 
@@ -114,6 +114,26 @@ static void run_cases(void)
     family("vectors: run");
 }
 
+/* Marks are hexadecimal, and all 1 before. */
+static void check_cases(void)
+{
+    while (more()) {
+        uint64_t wave = number(10), place[1];
+        size_t n = numbers(16, words, MOST), room = number(10);
+        uint64_t expected = number(10), at = number(10);
+        size_t marks = numbers(16, listed, MOST);
+        for (size_t i = 0; i < MOST; i++)
+            trace[i] = 1;
+        int good = aps2_check(words, n, wave, trace, room, place) == expected && place[0] == at && marks == room;
+        for (size_t i = 0; i < MOST; i++)
+            good &= trace[i] == (i < marks ? listed[i] : 1);
+        compared++;
+        if (!good)
+            disagree(compared);
+    }
+    family("vectors: check");
+}
+
 int main(void)
 {
     int kind = getchar(), second = getchar();
@@ -122,6 +142,8 @@ int main(void)
         next = getchar();
     if (kind == 'w')
         write_cases();
+    else if (kind == 'c')
+        check_cases();
     else if (second == 'e')
         read_cases();
     else

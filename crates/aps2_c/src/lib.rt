@@ -2,11 +2,12 @@
 // Nothing is kept, nothing is allocated, and nothing is read past what is lent.
 ghost use mathlib.Core.Path.{_≡_};
 ghost use mathlib.Core.Bool.{false};
-ghost use lib.ListN.{length};
+ghost use lib.ListN.{length, getD};
 ghost use Rattle.instruction.specs.Table.{bodyOf};
 ghost use Rattle.reader.specs.Reading.{readingOf};
 ghost use Rattle.machine.specs.State.{fixedBy};
 ghost use Rattle.rehearsal.specs.Run.{rehearse};
+ghost use Rattle.verdict.specs.Check.{verdict, numbered, CheckIs};
 ghost use Rattle.aps2_c.specs.Answer.{conditionOf, flatWith, Ran};
 ghost use Rattle.aps2_c.specs.Fields.{shownOf, fieldsOf, Read, isName, filledPast, valuesAsked, wishOf, Wrote};
 use instruction::Body;
@@ -25,6 +26,8 @@ use reader::Reading;
 use reader::read;
 use rehearsal::Answer;
 use rehearsal::run;
+use verdict::Verdict;
+use verdict::check;
 use writer::Written;
 use writer::write;
 
@@ -271,6 +274,20 @@ fn flat(condition: u64, a: Answer) -> [u64; 54]
         k[14],
         k[15],
     ]
+}
+
+#[no_mangle]
+pub extern "C" fn aps2_check(
+    words: &[u64],
+    wave: u64,
+    marks: &mut [u64],
+    place: &mut [u64; 1],
+) -> u64
+    ensures { λ r. ⌜ CheckIs wave (now (words .entry)) (now (marks .entry)) (verdict (numbered r) (getD (now (place .exit)) 0 0)) (now (marks .exit)) ⌝ }
+{
+    let v = check(words, wave, marks);
+    *place = [v.place as u64];
+    v.refusal.number
 }
 
 #[no_mangle]

@@ -1,0 +1,153 @@
+/* Checks, compared with the second program: the number, its place, and every mark, the tail included. Random sequences, all small ones,
+   groups, nests to the stack's end, and the bounds of every input. A sequence that is accepted is then run, and must not fault. */
+#include "../include/aps2.h"
+#include "../second/second.h"
+#include "sequences.h"
+
+#define MOST 65540
+
+static uint64_t words[MOST], ours[MOST], theirs[MOST], trace[256], answer[54];
+static uint8_t messages[8] = { 0, 1, 2, 3, 0, 200, 1, 255 };
+
+/* How often each number was met, so that no family passes by never meeting one. */
+static uint64_t met[64];
+
+static uint64_t try_check(size_t n, uint64_t wave, size_t room)
+{
+    uint64_t our_place[1] = { random64() }, their_place[1] = { random64() };
+    for (size_t i = 0; i < room + 2; i++)
+        ours[i] = theirs[i] = random64();
+    uint64_t number = aps2_check(words, n, wave, ours, room, our_place), other = second_check(words, n, wave, theirs, room, their_place);
+    int good = number == other && our_place[0] == their_place[0];
+    for (size_t i = 0; i < room + 2; i++)
+        good &= ours[i] == theirs[i];
+    compared++;
+    met[number < 64 ? number : 63]++;
+    if (!good && !failed) {
+        failed = 1;
+        printf("  n %llu, W %llu, room %llu: %llu at %llu, second %llu at %llu\n  words", (unsigned long long)n, (unsigned long long)wave,
+               (unsigned long long)room, (unsigned long long)number, (unsigned long long)our_place[0], (unsigned long long)other,
+               (unsigned long long)their_place[0]);
+        for (size_t i = 0; i < n && i < 40; i++)
+            printf(" %llx", (unsigned long long)words[i]);
+        printf("\n");
+    }
+    return number;
+}
+
+/* What check accepts never faults in a run. */
+static void try_accepted(size_t n, uint64_t wave)
+{
+    for (int k = 0; k < 4; k++) {
+        uint64_t end = aps2_run(words, n, wave, messages, below(9), (uint32_t)below(3), trace, below(257), below(400), answer);
+        if ((end < 40 || end > 43) && !failed) {
+            failed = 1;
+            printf("  accepted, and a run ended with %llu\n", (unsigned long long)end);
+        }
+    }
+}
+
+static void random_checks(void)
+{
+    uint64_t accepted = 0;
+    for (int k = 0; k < 60000; k++) {
+        size_t n = 1 + below(below(3) ? 24 : 6);
+        uint64_t wave = below(9);
+        any_sequence(words, n, wave);
+        if (try_check(n, wave, n + below(3)) == 0)
+            try_accepted(n, wave), accepted++;
+    }
+    for (int number = 20; number <= 22; number++)
+        failed |= !met[number];
+    for (int number = 30; number <= 32; number++)
+        failed |= !met[number];
+    failed |= accepted < 1000;
+    family("check: random sequences, and runs of those that are accepted");
+}
+
+/* Every sequence of up to four words over a small alphabet. */
+static void small_checks(void)
+{
+    static const uint64_t alphabet[] = {
+        OP(0, HIGH | UINT64_C(2) << 24), OP(0, UINT64_C(2) << 24), OP(4, 0), OP(4, 2), OP(5, 0), OP(6, 0), OP(6, 1), OP(6, 3), OP(7, 0), OP(7, 1),
+        OP(7, 2), OP(7, 3), OP(8, 0), ~UINT64_C(0),
+    };
+    const int letters = sizeof alphabet / sizeof *alphabet;
+    for (int n = 1; n <= 4; n++)
+        for (int k = 0; k < (n > 1 ? letters : 1) * (n > 2 ? letters : 1) * (n > 3 ? letters : 1); k++)
+            for (int first = 0; first < letters; first++) {
+                words[0] = alphabet[first], words[1] = alphabet[k % letters], words[2] = alphabet[k / letters % letters], words[3] = alphabet[k / letters / letters];
+                if (try_check((size_t)n, 2, (size_t)n) == 0)
+                    try_accepted((size_t)n, 2);
+            }
+    family("check: every sequence of up to four words over a small alphabet");
+}
+
+static void groups(void)
+{
+    for (size_t low = 0; low <= 10; low++)
+        for (int after = 0; after < 16; after++)
+            for (int damaged = 0; damaged < 12; damaged++) {
+                for (size_t i = 0; i < low; i++)
+                    words[i] = OP(below(2) ? 0 : 1, UINT64_C(2) << 24 | 2);
+                words[low] = OP(after, after == 0 ? HIGH | UINT64_C(2) << 24 : after == 1 ? HIGH | 2 : after == 10 ? HIGH | UINT64_C(1) << 40 | 2 : 0);
+                words[low + 1] = OP(6, 0);
+                if (damaged)
+                    words[below(low + 2)] ^= UINT64_C(1) << below(64);
+                try_check(low + 2 - (damaged == 1), 8, low + 2);
+            }
+    family("check: groups of up to ten low words, with every op code after them");
+}
+
+/* Calls one deeper each, to the stack's end and one past it, with returns and conditions between. */
+static void nests(void)
+{
+    for (int deep = 1; deep <= 18; deep++)
+        for (int k = 0; k < 60; k++) {
+            size_t n = 0;
+            for (int d = 0; d < deep; d++) {
+                if (below(3) == 0)
+                    words[n++] = OP(5, below(4) << 8);
+                words[n] = OP(7, n + 2);
+                n++;
+                words[n++] = OP(below(8) ? 8 : 6, 0);
+            }
+            words[n++] = OP(below(4) ? 8 : 6, 0);
+            if (below(3) == 0)
+                words[1 + below(n - 1)] = any_word(1, n, 4);
+            if (try_check(n, 4, n) == 0)
+                try_accepted(n, 4);
+        }
+    failed |= !met[31];
+    family("check: nests of calls to the stack's end and past it");
+}
+
+static void bounds(void)
+{
+    static const size_t lengths[] = { 0, 1, 2, 65535, 65536, 65537 };
+    static const uint64_t waves[] = { 0, 2, UINT64_C(16777216), UINT64_C(16777217), ~UINT64_C(0) };
+    for (size_t i = 0; i < 65538; i++)
+        words[i] = OP(0, HIGH | UINT64_C(2) << 24);
+    for (int l = 0; l < 6; l++)
+        for (int v = 0; v < 5; v++)
+            for (int less = -1; less <= 1; less++) {
+                if (lengths[l])
+                    words[lengths[l] - 1] = OP(6, 0);
+                try_check(lengths[l], waves[v], lengths[l] == 0 && less < 0 ? 0 : lengths[l] + (size_t)less);
+                if (lengths[l])
+                    words[lengths[l] - 1] = OP(0, HIGH | UINT64_C(2) << 24);
+            }
+    for (int number = 1; number <= 4; number++)
+        failed |= !met[number];
+    family("check: the bounds of every input");
+}
+
+int main(void)
+{
+    random_checks();
+    small_checks();
+    groups();
+    nests();
+    bounds();
+    return 0;
+}
