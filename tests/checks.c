@@ -122,6 +122,32 @@ static void nests(void)
     family("check: nests of calls to the stack's end and past it");
 }
 
+/* A condition, or none, or one over another, before each kind of jump to each address, at the first and the last depths. */
+static void conditions(void)
+{
+    static const int depths[] = { 0, 1, 15, 16 };
+    static const int jumps[] = { 4, 6, 7, 8 };
+    for (int d = 0; d < 4; d++)
+        for (int j = 0; j < 4; j++)
+            for (int compares = 0; compares <= 2; compares++)
+                for (int between = 0; between < 3; between++)
+                    for (size_t to = 0; to < (size_t)depths[d] + 6; to++) {
+                        size_t n = 0;
+                        for (int k = 0; k < depths[d]; k++, n++)
+                            words[n] = OP(7, n + 1);
+                        for (int k = 0; k < compares; k++)
+                            words[n++] = OP(5, below(4) << 8);
+                        size_t length = n + (between != 0) + 2, target = to % length;
+                        if (between)
+                            words[n++] = between == 1 ? ~UINT64_C(0) : OP(4, target);
+                        words[n++] = OP(jumps[j], jumps[j] == 8 ? 0 : target);
+                        words[n++] = OP(below(2) ? 6 : 8, 0);
+                        if (try_check(n, 0, n) == 0)
+                            try_accepted(n, 0);
+                    }
+    family("check: conditions before each kind of jump");
+}
+
 static void bounds(void)
 {
     static const size_t lengths[] = { 0, 1, 2, 65535, 65536, 65537 };
@@ -148,6 +174,7 @@ int main(void)
     small_checks();
     groups();
     nests();
+    conditions();
     bounds();
     return 0;
 }

@@ -3,11 +3,12 @@
 ghost use mathlib.Core.Path.{_≡_};
 ghost use mathlib.Core.Bool.{false};
 ghost use lib.ListN.{length, getD};
+ghost use Rattle.instruction.specs.Form.{numbered};
 ghost use Rattle.instruction.specs.Table.{bodyOf};
 ghost use Rattle.reader.specs.Reading.{readingOf};
 ghost use Rattle.machine.specs.State.{fixedBy};
 ghost use Rattle.rehearsal.specs.Run.{rehearse};
-ghost use Rattle.verdict.specs.Check.{verdict, numbered, CheckIs};
+ghost use Rattle.verdict.specs.Check.{verdict, CheckIs};
 ghost use Rattle.aps2_c.specs.Answer.{conditionOf, flatWith, Ran};
 ghost use Rattle.aps2_c.specs.Fields.{shownOf, fieldsOf, Read, isName, filledPast, valuesAsked, wishOf, Wrote};
 use instruction::Body;

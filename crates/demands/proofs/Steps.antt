@@ -20,7 +20,8 @@ use Rattle.reader.specs.declared.Reading.{Reading}
 use Rattle.reader.specs.declared.Reading.the-variants.{Accepted, Refused}
 use Rattle.sequence.specs.Placing.{placingOf}
 use Rattle.dispatch.proofs.Counts.{picks}
-use Rattle.machine.specs.State.{Fixed, Did, stateOf, withCore, numbered, refusedBy, stop, moves}
+use Rattle.instruction.specs.Form.{numbered}
+use Rattle.machine.specs.State.{Fixed, Did, stateOf, withCore, refusedBy, stop, moves}
 use Rattle.machine.specs.Step.{acts, callOf, returnOf, messageOf, groupOf, sent, sendOf, engineOf, anyAbove, syncOf, actOf, breaksGroup, executeOf, withReading, stepOf}
 use Rattle.machine.specs.declared.Core.{Core}
 use Rattle.machine.specs.declared.State.{State}

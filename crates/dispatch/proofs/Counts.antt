@@ -10,8 +10,8 @@ use borrow.Author.Tests.{eq-eqb, ne-eqb}
 use lib.Dec.{eqb}
 use lib.ListN.{length, getD, take, drop, length-set, length-map, length-drop}
 use lib.Seq.{take-suc, getD-drop}
-use Rattle.instruction.specs.Bits.{pick}
-use Rattle.instruction.specs.Table.{codeOf, bodyOf}
+use Rattle.instruction.specs.Bits.{pick, span}
+use Rattle.instruction.specs.Table.{engineSelect, codeOf, bodyOf}
 use Rattle.instruction.specs.Form.{plays, modulates}
 use Rattle.instruction.specs.Word.{codeIn, valuesIn, spelledBy}
 use Rattle.instruction.specs.declared.Instruction.{Instruction}
@@ -27,11 +27,11 @@ pub picks : {A : Type 0} (P : A → Type 0) (t : Bool) {a b : A} → (t ≡ true
 picks P true p q = p refl
 picks P false p q = q refl
 
-pub spelled-engine : (w : ℕ) → spelledBy w .engine < 4
+pub spelled-engine : (w : ℕ) → spelledBy w .engine < span engineSelect
 unfolding spelledBy
 spelled-engine w = omega arith
 
-pub engine-small : (i : Instruction) → i .engine < 4 → engineOf i < 6
+pub engine-small : (i : Instruction) → i .engine < span engineSelect → engineOf i < 6
 engine-small i h = on-engine (λ (k : ℕ). k < 6) (λ f. omega arith) (λ f. omega arith) (λ f. omega arith) (omega arith) (i .body)
 
 pub waits-small : (b : Body) → waitsFor b ≤ 1

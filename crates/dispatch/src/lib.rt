@@ -4,7 +4,8 @@ ghost use mathlib.Core.Path.{_≡_};
 ghost use mathlib.Core.List.{_++_};
 ghost use Prim.Native.Nat.{_+_, _^_, _≤_, _<_};
 ghost use lib.ListN.{length, drop};
-ghost use Rattle.instruction.specs.Bits.{pick};
+ghost use Rattle.instruction.specs.Bits.{pick, span};
+ghost use Rattle.instruction.specs.Table.{engineSelect};
 ghost use Rattle.dispatch.specs.Engines.{shareOf, engineOf, waitsFor, playsFor, plusOne, Six, Counted, CountedOne};
 ghost use Rattle.dispatch.specs.Trace.{part, Dispatched, CountedAll, CanCount, CanDispatch};
 use instruction::Body;
@@ -60,7 +61,7 @@ impl Share {
     }
 
     fn of(i: Instruction) -> Share
-        requires { ⌜ i .engine < 4 ⌝ }
+        requires { ⌜ i .engine < span engineSelect ⌝ }
         ensures { λ r. ⌜ r ≡ record { engine = engineOf i; waits = waitsFor (i .body); plays = playsFor (i .body) } ⌝ }
     {
         let body = i.body;
@@ -100,7 +101,7 @@ impl Share {
 }
 
 // WAIT: each of the six counts, one more.
-fn plus_one(waits: &mut [u64; 6])
+fn plus_one(waits: &mut [u64; Engines::COUNT])
     requires { ⌜ Six (2 ^ 32) (now waits) ⌝ }
     ensures { λ _. ⌜ now (waits .exit) ≡ plusOne (now (waits .entry)) ⌝ }
 {
@@ -112,7 +113,7 @@ fn plus_one(waits: &mut [u64; 6])
 }
 
 // One dispatched word.
-fn count_word(word: u64, waits: &mut [u64; 6], totals: &mut [u64; 6])
+fn count_word(word: u64, waits: &mut [u64; Engines::COUNT], totals: &mut [u64; Engines::COUNT])
     requires { ⌜ Counted (2 ^ 31) (now waits) (now totals) ⌝ }
     ensures { λ _. ⌜ CountedOne word (now (waits .entry)) (now (totals .entry)) (now (waits .exit)) (now (totals .exit)) ⌝ }
 {
@@ -129,7 +130,13 @@ fn count_word(word: u64, waits: &mut [u64; 6], totals: &mut [u64; 6])
 }
 
 // The words of a group, each in its turn.
-fn count_group(words: &[u64], from: usize, n: usize, waits: &mut [u64; 6], totals: &mut [u64; 6])
+fn count_group(
+    words: &[u64],
+    from: usize,
+    n: usize,
+    waits: &mut [u64; Engines::COUNT],
+    totals: &mut [u64; Engines::COUNT],
+)
     requires { ⌜ CanCount (now words) from n (now waits) (now totals) ⌝ }
     ensures { λ _. ⌜ CountedAll (part from n (now (words .entry))) (now (waits .entry)) (now (totals .entry)) (now (waits .exit)) (now (totals .exit)) ⌝ }
 {
@@ -159,8 +166,8 @@ pub fn dispatch(
     n: usize,
     trace: &mut [u64],
     len: usize,
-    waits: &mut [u64; 6],
-    totals: &mut [u64; 6],
+    waits: &mut [u64; Engines::COUNT],
+    totals: &mut [u64; Engines::COUNT],
 )
     requires { ⌜ CanDispatch (now words) from n (length (now trace)) len (now waits) (now totals) ⌝ }
     ensures { λ _. ⌜ Dispatched (part from n (now (words .entry))) len (now (trace .entry)) (now (waits .entry)) (now (totals .entry)) (now (trace .exit)) (now (waits .exit)) (now (totals .exit)) ⌝ }

@@ -16,7 +16,7 @@ use Rattle.instruction.specs.declared.WordAddress.{WordAddress}
 use Rattle.flow.specs.declared.Move.{Move}
 use Rattle.flow.specs.declared.Move.the-variants.{Other, Compare, Jump, Enter, Leave, Loop}
 use Rattle.flow.specs.Masks.{bareOf, heldOf, deeperOf, nextOf, jumpOf, toOf}
-use Rattle.flow.specs.Walk.{On, place}
+use Rattle.flow.specs.Walk.{deepest, On, place}
 use Rattle.flow.proofs.Rules.{Onward, plain-on, cmp-on, goto-on, call-on, return-on, repeat-on, Leaps, goto-to, call-to, repeat-to}
 
 -- ---- one digit
@@ -93,17 +93,17 @@ zero-off k p = never (0 / 2 ^ k % 2) (ap (λ (x : ℕ). x % 2) (zero-div (2 ^ k)
 abbrev evens : ℕ
 evens = 0x5555_5555_5555_5555
 
-even-on : (d : ℕ) → d < 32 → On (2 * d) evens
-even-on d h = eqb-true _ 1 (not-false _ (none-below 32 (λ k. not (eqb (evens / 2 ^ (2 * k) % 2) 1)) refl d h))
+even-on : (d : ℕ) → d ≤ deepest → On (2 * d) evens
+even-on d h = eqb-true _ 1 (not-false _ (none-below (deepest + 1) (λ k. not (eqb (evens / 2 ^ (2 * k) % 2) 1)) refl d (omega (arith, h))))
 
-odd-low : (d : ℕ) → d < 32 → evens / 2 ^ (2 * d + 1) % 2 ≡ 0
-odd-low d h = eqb-true _ 0 (not-false _ (none-below 32 (λ k. not (eqb (evens / 2 ^ (2 * k + 1) % 2) 0)) refl d h))
+odd-low : (d : ℕ) → d ≤ deepest → evens / 2 ^ (2 * d + 1) % 2 ≡ 0
+odd-low d h = eqb-true _ 0 (not-false _ (none-below (deepest + 1) (λ k. not (eqb (evens / 2 ^ (2 * k + 1) % 2) 0)) refl d (omega (arith, h))))
 
 odd-off : {A : Type 0} (d : ℕ) → On (2 * d + 1) evens → A
-odd-off {A = A} d p = go (decLt d 32)
+odd-off {A = A} d p = go (decLt d (deepest + 1))
   where
-    go : Dec (d < 32) → A
-    go (yes h) = never (evens / 2 ^ (2 * d + 1) % 2) (odd-low d h) p
+    go : Dec (d < deepest + 1) → A
+    go (yes h) = never (evens / 2 ^ (2 * d + 1) % 2) (odd-low d (omega (arith, h))) p
     go (no h) = high-off 64 (2 * d + 1) evens (lit< tt) (omega arith) p
 
 -- ---- bare, held, deeper
@@ -114,7 +114,7 @@ half-on k m p = moved m (omega arith) (sym (shr-bit 1 k m) ∙ p)
 on-half : (k m : ℕ) → On (k + 1) m → On k (m / 2)
 on-half k m p = shr-bit 1 k m ∙ moved {j = k + 1} {k = 1 + k} m (omega arith) p
 
-pub on-bare : (d m : ℕ) (c : Bool) → d < 32 → On (place d c) m → On (2 * d) (bareOf m)
+pub on-bare : (d m : ℕ) (c : Bool) → d ≤ deepest → On (place d c) m → On (2 * d) (bareOf m)
 unfolding bareOf
 on-bare d m false h p = on-and (2 * d) (bitOr m (m / 2)) evens (or-left (2 * d) m (m / 2) p) (even-on d h)
 on-bare d m true h p = on-and (2 * d) (bitOr m (m / 2)) evens (or-right (2 * d) m (m / 2) (on-half (2 * d) m p)) (even-on d h)
@@ -135,7 +135,7 @@ pub bare-le : (m : ℕ) → bareOf m ≤ evens
 unfolding bareOf
 bare-le m = and-le-r (bitOr m (m / 2)) evens
 
-on-held : (d m : ℕ) → d < 32 → On (2 * d + 1) m → On (2 * d) (heldOf m)
+on-held : (d m : ℕ) → d ≤ deepest → On (2 * d + 1) m → On (2 * d) (heldOf m)
 unfolding heldOf
 on-held d m h p = on-and (2 * d) (m / 2) evens (on-half (2 * d) m p) (even-on d h)
 
@@ -207,7 +207,7 @@ quarter-on d r p = moved {j = 2 + 2 * d} {k = 2 * (d + 1)} r (omega arith) (sym 
 
 -- ---- the masks against the rules of the walk
 
-pub next-on : {o : Move} {d : ℕ} {c : Bool} {e : ℕ} {h : Bool} → Onward o d c e h → d < 32 → (m r : ℕ) → On (place d c) m → On (place e h) (nextOf o m r)
+pub next-on : {o : Move} {d : ℕ} {c : Bool} {e : ℕ} {h : Bool} → Onward o d c e h → d ≤ deepest → (m r : ℕ) → On (place d c) m → On (place e h) (nextOf o m r)
 next-on plain-on l m r p = p
 next-on (cmp-on {d = d} {c = c}) l m r p = on-dbl (2 * d) (bareOf m) (on-bare d m c l p)
 next-on (goto-on {d = d}) l m r p = on-held d m l p
@@ -215,12 +215,12 @@ next-on (call-on {d = d}) l m r p = or-left (2 * d) (heldOf m) (bitAnd (bareOf m
 next-on (return-on {d = d}) l m r p = on-held d m l p
 next-on repeat-on l m r p = p
 
-pub back-on : (t : WordAddress) (d : ℕ) (c : Bool) (m r : ℕ) → d < 32 → On (place d c) m → On (2 * (d + 1)) r → On (2 * d) (nextOf (Enter t) m r)
+pub back-on : (t : WordAddress) (d : ℕ) (c : Bool) (m r : ℕ) → d ≤ deepest → On (place d c) m → On (2 * (d + 1)) r → On (2 * d) (nextOf (Enter t) m r)
 back-on t d c m r l p q =
     or-right (2 * d) (heldOf m) (bitAnd (bareOf m) (r / 4))
     (on-and (2 * d) (bareOf m) (r / 4) (on-bare d m c l p) (on-quarter d r q))
 
-pub jump-on : {lim : ℕ} {o : Move} {d : ℕ} {c : Bool} {t e : ℕ} {h : Bool} → Leaps lim o d c t e h → d < 32 → (m : ℕ) → On (place d c) m → (toOf o ≡ t) × On (place e h) (jumpOf lim o m)
+pub jump-on : {lim : ℕ} {o : Move} {d : ℕ} {c : Bool} {t e : ℕ} {h : Bool} → Leaps lim o d c t e h → d ≤ deepest → (m : ℕ) → On (place d c) m → (toOf o ≡ t) × On (place e h) (jumpOf lim o m)
 jump-on (goto-to {d = d} {c = c}) l m p = (refl, on-bare d m c l p)
 jump-on {lim = lim} (call-to {d = d} {c = c} s) l m p = (refl, on-deeper lim d m s (on-bare d m c l p))
 jump-on repeat-to l m p = (refl, p)

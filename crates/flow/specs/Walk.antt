@@ -45,6 +45,10 @@ pub data Fault (limit : ℕ) (words : List ℕ) : ℕ → ℕ → Type 0 where
   -- "or fault 32 at depth 0"
   empty : {a : ℕ} {c : Bool} → Reached limit words a 0 c → a < length words → moveAt words a ≡ Leave → Fault limit words 32 a
 
+-- a mark of 64 bits has room for depths 0 to 31
+abbrev pub deepest : ℕ
+deepest = 31
+
 -- bit k of a mark is set
 abbrev pub On : ℕ → ℕ → Type 0
 On k mark = mark / 2 ^ k % 2 ≡ 1

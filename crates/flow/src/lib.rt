@@ -4,6 +4,7 @@ ghost use mathlib.Core.Path.{_≡_};
 ghost use Prim.Native.Nat.{_*_, _^_, _≤_};
 ghost use Rattle.instruction.specs.Word.{spelledBy};
 ghost use Rattle.flow.specs.Move.{moveOf};
+ghost use Rattle.flow.specs.Walk.{deepest};
 ghost use Rattle.flow.specs.Masks.{bareOf, heldOf, deeperOf, Follows};
 use instruction::Body;
 use instruction::Instruction;
@@ -57,9 +58,6 @@ impl Mark {
     // One bit for each depth.
     pub const DEPTHS: u64 = 0x5555_5555_5555_5555;
 
-    // Depths 0 to 31 have their bits.
-    pub const DEEPEST: u64 = 31;
-
     // The depths that are reached, at bit 2d.
     pub fn bare(m: u64) -> u64
         ensures { λ r. ⌜ r ≡ bareOf m ⌝ }
@@ -76,7 +74,7 @@ impl Mark {
 
     // The bit of a depth.
     pub fn at(depth: u64) -> u64
-        requires { ⌜ depth ≤ 31 ⌝ }
+        requires { ⌜ depth ≤ deepest ⌝ }
         ensures { λ r. ⌜ r ≡ 2 ^ (2 * depth) ⌝ }
     {
         1u64 << (2 * depth)
@@ -84,7 +82,7 @@ impl Mark {
 
     // One deeper, without a condition, where the limit allows.
     pub fn deeper(m: u64, limit: u64) -> u64
-        requires { ⌜ limit ≤ 31 ⌝ }
+        requires { ⌜ limit ≤ deepest ⌝ }
         ensures { λ r. ⌜ r ≡ deeperOf limit m ⌝ }
     {
         let below = Mark::at(limit);
@@ -102,7 +100,7 @@ pub struct Moves {
 impl Moves {
     // `back` has the depths at which a RETURN is marked, at bit 2d.
     pub fn of(o: Move, m: u64, back: u64, limit: u64) -> Moves
-        requires { ⌜ limit ≤ 31 ⌝ }
+        requires { ⌜ limit ≤ deepest ⌝ }
         ensures { λ r. ⌜ Follows limit o m back r ⌝ }
     {
         match o {

@@ -8,9 +8,14 @@ use Rattle.instruction.specs.declared.WaveformFields.{WaveformFields}
 use Rattle.instruction.specs.declared.MarkerFields.{MarkerFields}
 use Rattle.instruction.specs.declared.ModulatorFields.{ModulatorFields}
 use Rattle.instruction.specs.declared.WordAddress.{WordAddress}
+use Rattle.instruction.specs.declared.Refusal.{Refusal}
 use Rattle.instruction.specs.declared.Instruction.{Instruction}
 use Rattle.instruction.specs.declared.Body.{Body}
 use Rattle.instruction.specs.declared.Body.the-variants.{Waveform, Marker, Wait, LoadRepeat, Repeat, Cmp, Goto, Call, Return, Sync, Modulator, LoadCmp, Prefetch, Noop}
+
+-- a refusal is told by its number; 0 refuses nothing
+abbrev pub numbered : ℕ → Refusal
+numbered number = record { number = number }
 
 -- ---- the engine ops
 

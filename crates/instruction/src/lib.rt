@@ -288,6 +288,12 @@ impl Comparison {
 
     pub const MASK: Field = Field { low: 0, width: 8 };
 
+    pub const EQUAL: u64 = 0;
+
+    pub const UNEQUAL: u64 = 1;
+
+    pub const ABOVE: u64 = 2;
+
     fn spelled_by(word: u64) -> Comparison
         ensures { λ r. ⌜ r ≡ comparisonOf (heldIn word (payloadOf 5)) ⌝ }
     {

@@ -22,7 +22,8 @@ use Rattle.sequence.proofs.Laws.{placed-words}
 use Rattle.dispatch.specs.Engines.{AllLe}
 use Rattle.dispatch.proofs.Lists.{all-get, all-set}
 use Rattle.dispatch.proofs.Counts.{picks, counted-more, counted-over}
-use Rattle.machine.specs.State.{Fixed, Did, stateOf, fresh, withCore, numbered, refusedBy, moves}
+use Rattle.instruction.specs.Form.{numbered}
+use Rattle.machine.specs.State.{Fixed, Did, stateOf, fresh, withCore, refusedBy, moves}
 use Rattle.machine.specs.Step.{acts, repeatOf, gotoOf, callOf, returnOf, messageOf, holdOf, groupOf, sendOf, engineOf, anyAbove, syncOf, actOf, breaksGroup, executeOf, withReading, stepOf}
 use Rattle.machine.specs.Kept.{Good}
 use Rattle.machine.specs.declared.Core.{Core}

@@ -17,7 +17,8 @@ use Rattle.sequence.specs.Placing.{placingOf}
 use Rattle.dispatch.specs.Trace.{put}
 use Rattle.dispatch.proofs.Lists.{put-none}
 use Rattle.dispatch.proofs.Counts.{picks, counted-more}
-use Rattle.machine.specs.State.{Fixed, Did, stateOf, withMessage, withCore, numbered, refusedBy, stop, moves, stopped, Done, Traced}
+use Rattle.instruction.specs.Form.{numbered}
+use Rattle.machine.specs.State.{Fixed, Did, stateOf, withMessage, withCore, refusedBy, stop, moves, stopped, Done, Traced}
 use Rattle.machine.specs.Step.{nexts, acts, cleared, pushed, callOf, popped, returnOf, messageOf, holdOf, groupOf, sent, sendOf, engineOf, anyAbove, syncOf, actOf, breaksGroup, executeOf, withReading, stepOf}
 use Rattle.machine.specs.Kept.{At, Sends}
 use Rattle.machine.specs.declared.Core.{Core}

@@ -4,6 +4,7 @@ use Prim.Native.Nat.{ℕ}
 use mathlib.Core.List.{List, []}
 use mathlib.Core.Path.{_≡_}
 use lib.ListN.{replicate}
+use Rattle.instruction.specs.Form.{numbered}
 use Rattle.instruction.specs.declared.Refusal.{Refusal}
 use Rattle.sequence.specs.Bounds.{stackDepth}
 use Rattle.dispatch.specs.Engines.{engineCount}
@@ -64,9 +65,6 @@ pub record Did : Type 0 where
   pub end : Refusal
   pub state : State
   pub out : List ℕ
-
-abbrev pub numbered : ℕ → Refusal
-numbered n = record { number = n }
 
 -- "A step that stops so isn't counted and alters nothing."
 abbrev pub refusedBy : Refusal → State → Did

@@ -17,7 +17,8 @@ use Rattle.sequence.specs.Bounds.{stackDepth, groupSize}
 use Rattle.sequence.specs.Placing.{isEngine, placingOf}
 use Rattle.dispatch.specs.Engines.{waitsOver, totalsOver}
 use Rattle.dispatch.specs.Trace.{part}
-use Rattle.machine.specs.State.{Fixed, Did, stateOf, withCount, withMessage, withSent, withCounter, withCondition, withDepth, withCore, numbered, refusedBy, stop, moves}
+use Rattle.instruction.specs.Form.{numbered}
+use Rattle.machine.specs.State.{Fixed, Did, stateOf, withCount, withMessage, withSent, withCounter, withCondition, withDepth, withCore, refusedBy, stop, moves}
 use Rattle.machine.specs.declared.Condition.{Condition}
 use Rattle.machine.specs.declared.Condition.the-variants.{Absent, Fails, Holds}
 use Rattle.machine.specs.declared.Core.{Core}

@@ -44,10 +44,10 @@ pub struct Core {
 
 pub struct State {
     pub core: Core,
-    pub returns: [u64; 16],
-    pub counters: [u64; 16],
-    pub waits: [u64; 6],
-    pub totals: [u64; 6],
+    pub returns: [u64; Sequence::STACK as usize],
+    pub counters: [u64; Sequence::STACK as usize],
+    pub waits: [u64; Engines::COUNT],
+    pub totals: [u64; Engines::COUNT],
 }
 
 // What is fixed in a run beside its words, messages and trace.
@@ -63,12 +63,6 @@ pub struct Stepped {
 }
 
 impl Stepped {
-    pub const PAST_THE_END: u64 = 30;
-
-    pub const STACK_FULL: u64 = 31;
-
-    pub const STACK_EMPTY: u64 = 32;
-
     pub const TRIGGER_AWAITED: u64 = 41;
 
     pub const MESSAGE_AWAITED: u64 = 42;
@@ -240,20 +234,25 @@ impl Core {
 fn holds(code: u64, register: u64, mask: u64) -> bool
     ensures { λ r. ⌜ r ≡ compares code register mask ⌝ }
 {
-    if code == 0 {
+    if code == Comparison::EQUAL {
         return register == mask;
     }
-    if code == 1 {
+    if code == Comparison::UNEQUAL {
         return register != mask;
     }
-    if code == 2 {
+    if code == Comparison::ABOVE {
         return mask < register;
     }
     register < mask
 }
 
 // H5, and 31.
-fn call(returns: &mut [u64; 16], counters: &mut [u64; 16], s: Core, to: WordAddress) -> Stepped
+fn call(
+    returns: &mut [u64; Sequence::STACK as usize],
+    counters: &mut [u64; Sequence::STACK as usize],
+    s: Core,
+    to: WordAddress,
+) -> Stepped
     requires { ⌜ Counts s ⌝ }
     ensures { λ r. ⌜ ((ws ts : List ℕ) → Done (callOf (stateOf s (now (returns .entry)) (now (counters .entry)) ws ts) (to .0)) r (now (returns .exit)) (now (counters .exit)) ws ts) ⌝ }
 {
@@ -263,7 +262,7 @@ fn call(returns: &mut [u64; 16], counters: &mut [u64; 16], s: Core, to: WordAddr
     }
     let depth = s.depth;
     if Sequence::STACK <= depth {
-        return Stepped::stop(Stepped::STACK_FULL, s);
+        return Stepped::stop(Sequence::STACK_FULL, s);
     }
     let top = depth as usize;
     returns[top] = s.address.0 + 1;
@@ -274,7 +273,11 @@ fn call(returns: &mut [u64; 16], counters: &mut [u64; 16], s: Core, to: WordAddr
 }
 
 // H5, and 32.
-fn ret(returns: &mut [u64; 16], counters: &mut [u64; 16], s: Core) -> Stepped
+fn ret(
+    returns: &mut [u64; Sequence::STACK as usize],
+    counters: &mut [u64; Sequence::STACK as usize],
+    s: Core,
+) -> Stepped
     requires { ⌜ Returns s ⌝ }
     ensures { λ r. ⌜ ((ws ts : List ℕ) → Done (returnOf (stateOf s (now (returns .entry)) (now (counters .entry)) ws ts)) r (now (returns .exit)) (now (counters .exit)) ws ts) ⌝ }
 {
@@ -284,7 +287,7 @@ fn ret(returns: &mut [u64; 16], counters: &mut [u64; 16], s: Core) -> Stepped
     }
     let depth = s.depth;
     if depth == 0 {
-        return Stepped::stop(Stepped::STACK_EMPTY, s);
+        return Stepped::stop(Sequence::STACK_EMPTY, s);
     }
     let less = depth - 1;
     let top = less as usize;
@@ -320,8 +323,8 @@ fn wide(x: u8) -> u64
 fn send(
     words: &[u64],
     trace: &mut [u64],
-    waits: &mut [u64; 6],
-    totals: &mut [u64; 6],
+    waits: &mut [u64; Engines::COUNT],
+    totals: &mut [u64; Engines::COUNT],
     s: Core,
 ) -> Stepped
     requires { ⌜ Sends (now words) (length (now trace)) s (now waits) (now totals) ⌝ }
@@ -344,8 +347,8 @@ fn send(
 fn engine(
     words: &[u64],
     trace: &mut [u64],
-    waits: &mut [u64; 6],
-    totals: &mut [u64; 6],
+    waits: &mut [u64; Engines::COUNT],
+    totals: &mut [u64; Engines::COUNT],
     s: Core,
     write: u64,
 ) -> Stepped
@@ -358,7 +361,7 @@ fn engine(
     send(words, trace, waits, totals, s)
 }
 
-fn any_above(triggers: u64, waits: &[u64; 6]) -> bool
+fn any_above(triggers: u64, waits: &[u64; Engines::COUNT]) -> bool
     requires { ⌜ length (now waits) ≡ engineCount ⌝ }
     ensures { λ r. ⌜ r ≡ anyAbove triggers (now (waits .entry)) ⌝ }
 {
@@ -376,8 +379,8 @@ fn any_above(triggers: u64, waits: &[u64; 6]) -> bool
 fn sync(
     words: &[u64],
     trace: &mut [u64],
-    waits: &mut [u64; 6],
-    totals: &mut [u64; 6],
+    waits: &mut [u64; Engines::COUNT],
+    totals: &mut [u64; Engines::COUNT],
     s: Core,
     setting: Setting,
 ) -> Stepped
@@ -395,10 +398,10 @@ fn act(
     words: &[u64],
     messages: &[u8],
     trace: &mut [u64],
-    returns: &mut [u64; 16],
-    counters: &mut [u64; 16],
-    waits: &mut [u64; 6],
-    totals: &mut [u64; 6],
+    returns: &mut [u64; Sequence::STACK as usize],
+    counters: &mut [u64; Sequence::STACK as usize],
+    waits: &mut [u64; Engines::COUNT],
+    totals: &mut [u64; Engines::COUNT],
     s: Core,
     write: u64,
     body: Body,
@@ -439,10 +442,10 @@ fn execute(
     words: &[u64],
     messages: &[u8],
     trace: &mut [u64],
-    returns: &mut [u64; 16],
-    counters: &mut [u64; 16],
-    waits: &mut [u64; 6],
-    totals: &mut [u64; 6],
+    returns: &mut [u64; Sequence::STACK as usize],
+    counters: &mut [u64; Sequence::STACK as usize],
+    waits: &mut [u64; Engines::COUNT],
+    totals: &mut [u64; Engines::COUNT],
     s: Core,
     i: Instruction,
     setting: Setting,
@@ -479,10 +482,10 @@ pub fn step(
     words: &[u64],
     messages: &[u8],
     trace: &mut [u64],
-    returns: &mut [u64; 16],
-    counters: &mut [u64; 16],
-    waits: &mut [u64; 6],
-    totals: &mut [u64; 6],
+    returns: &mut [u64; Sequence::STACK as usize],
+    counters: &mut [u64; Sequence::STACK as usize],
+    waits: &mut [u64; Engines::COUNT],
+    totals: &mut [u64; Engines::COUNT],
     s: Core,
     setting: Setting,
 ) -> Stepped
@@ -491,7 +494,7 @@ pub fn step(
 {
     let at = s.address.0 as usize;
     if words.len() <= at {
-        return Stepped::stop(Stepped::PAST_THE_END, s);
+        return Stepped::stop(Sequence::PAST_THE_END, s);
     }
     let reading = read(words[at]);
     let Reading::Accepted(i) = reading else {

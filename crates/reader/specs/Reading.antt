@@ -6,7 +6,7 @@ use mathlib.Core.List.{List, [], _∷_}
 use lib.Dec.{eqb, leb}
 use Rattle.instruction.specs.Bits.{pick, _gives_else_, isSet, isIn, held}
 use Rattle.instruction.specs.Table.{opCode, engineSelect, writeFlag, engineOp, payloadOf, codeOf, noopWord, waitOp, syncOp}
-use Rattle.instruction.specs.Form.{formOf}
+use Rattle.instruction.specs.Form.{numbered, formOf}
 use Rattle.instruction.specs.Word.{codeIn, spelledBy, noop}
 use Rattle.instruction.specs.declared.Field.{Field}
 use Rattle.instruction.specs.declared.Instruction.{Instruction}
@@ -53,7 +53,7 @@ formIn word =
 
 -- an instruction where the number is 0, and else the refusal with the number
 abbrev pub judged : ℕ → Instruction → Reading
-judged number i = pick (eqb number 0) (Accepted i) (Refused (record { number = number }))
+judged number i = pick (eqb number 0) (Accepted i) (Refused (numbered number))
 
 -- H2: NOOP is "tested before all else"
 unfoldable pub readingOf : ℕ → Reading
@@ -61,7 +61,7 @@ readingOf word = pick (eqb word noopWord) (Accepted noop) (judged (formIn word) 
 
 -- the refusal of a reading; number 0 is accepted
 abbrev pub refusalOf : Reading → Refusal
-refusalOf (Accepted i) = record { number = 0 }
+refusalOf (Accepted i) = numbered 0
 refusalOf (Refused r) = r
 
 abbrev pub numberOf : Reading → ℕ

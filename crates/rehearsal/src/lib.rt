@@ -2,8 +2,10 @@
 // It takes exactly the steps that the instruction set gives.
 ghost use mathlib.Core.Path.{_≡_};
 ghost use lib.ListN.{length};
+ghost use Rattle.instruction.specs.Form.{numbered};
 ghost use Rattle.machine.specs.State.{fixedBy, stateOf, fresh, Traced};
 ghost use Rattle.rehearsal.specs.Run.{runOf, inputRefused, rehearse, Rehearsed, CanGo};
+use dispatch::Engines;
 use instruction::QuadSamples;
 use instruction::Refusal;
 use machine::Core;
@@ -24,15 +26,15 @@ impl Answer {
 
     // Zeros beside an input number.
     fn refused(number: u64) -> Answer
-        ensures { λ r. ⌜ r ≡ record { end = record { number = number }; state = fresh } ⌝ }
+        ensures { λ r. ⌜ r ≡ record { end = numbered number; state = fresh } ⌝ }
     {
         let core = Core::fresh();
         let state = State {
             core,
-            returns: [0; 16],
-            counters: [0; 16],
-            waits: [0; 6],
-            totals: [0; 6],
+            returns: [0; Sequence::STACK as usize],
+            counters: [0; Sequence::STACK as usize],
+            waits: [0; Engines::COUNT],
+            totals: [0; Engines::COUNT],
         };
         Answer {
             end: Refusal { number },
@@ -60,10 +62,10 @@ fn go_on(
     words: &[u64],
     messages: &[u8],
     trace: &mut [u64],
-    returns: &mut [u64; 16],
-    counters: &mut [u64; 16],
-    waits: &mut [u64; 6],
-    totals: &mut [u64; 6],
+    returns: &mut [u64; Sequence::STACK as usize],
+    counters: &mut [u64; Sequence::STACK as usize],
+    waits: &mut [u64; Engines::COUNT],
+    totals: &mut [u64; Engines::COUNT],
     s: Core,
     budget: u64,
     setting: Setting,
@@ -115,10 +117,10 @@ pub fn run(
         wave,
         triggers: triggers as u64,
     };
-    let mut returns = [0; 16];
-    let mut counters = [0; 16];
-    let mut waits = [0; 6];
-    let mut totals = [0; 6];
+    let mut returns = [0; Sequence::STACK as usize];
+    let mut counters = [0; Sequence::STACK as usize];
+    let mut waits = [0; Engines::COUNT];
+    let mut totals = [0; Engines::COUNT];
     let core = Core::fresh();
     let r = go_on(
         words,

@@ -44,6 +44,13 @@ impl Sequence {
 
     pub const BROKEN_GROUP: u64 = 22;
 
+    // Flow.
+    pub const PAST_THE_END: u64 = 30;
+
+    pub const STACK_FULL: u64 = 31;
+
+    pub const STACK_EMPTY: u64 = 32;
+
     // 1, 2, 3 or 0, for n words and a waveform memory.
     pub fn lengths_refused(n: u64, wave: u64) -> u64
         ensures { λ r. ⌜ r ≡ lengthsRefused n wave ⌝ }

@@ -17,7 +17,7 @@ use Rattle.flow.specs.declared.Move.{Move}
 use Rattle.flow.specs.declared.Move.the-variants.{Other, Compare, Jump, Enter, Leave, Loop}
 use Rattle.flow.specs.Masks.{nextOf, toOf}
 use Rattle.flow.specs.Move.{moveAt}
-use Rattle.flow.specs.Walk.{On, place, Reached, Fault, past, full, empty}
+use Rattle.flow.specs.Walk.{deepest, On, place, Reached, Fault, past, full, empty}
 use Rattle.flow.proofs.Rules.{Leaps, goto-to, call-to, repeat-to, Walked, begin, on, over, back, walked, reached}
 use Rattle.flow.proofs.Bits.{two, zero-off, next-on, back-on, on-next}
 use Rattle.walk.specs.Marks.{Exact, Returns}
@@ -135,8 +135,8 @@ jump-to goto-to = refl
 jump-to (call-to _) = refl
 jump-to repeat-to = refl
 
-module _ (lim : ℕ) (ws ms : List ℕ) (r z : ℕ) (ex : Exact lim ws ms) (rs : Returns ws ms (length ws) r) (ts : Targets ws) (end : z + 1 ≡ length ws) (small : lim ≤ 31) where
-  narrow : {d : ℕ} → d ≤ lim → d < 32
+module _ (lim : ℕ) (ws ms : List ℕ) (r z : ℕ) (ex : Exact lim ws ms) (rs : Returns ws ms (length ws) r) (ts : Targets ws) (end : z + 1 ≡ length ws) (small : lim ≤ deepest) where
+  narrow : {d : ℕ} → d ≤ lim → d ≤ deepest
   narrow l = omega arith
 
   came-last : (a : ℕ) → a + 1 ≡ length ws → a ≡ z

@@ -19,7 +19,8 @@ use Rattle.flow.proofs.Bits.{two, zero-off}
 use Rattle.walk.specs.Marks.{Exact}
 use Rattle.sequence.specs.Bounds.{stackDepth}
 use Rattle.verdict.specs.Words.{wordRefusal}
-use Rattle.verdict.specs.Check.{verdict, numbered, WordsAre, passed, first, CheckIs, input, word, flow}
+use Rattle.instruction.specs.Form.{numbered}
+use Rattle.verdict.specs.Check.{verdict, WordsAre, passed, first, CheckIs, input, word, flow}
 use Rattle.verdict.specs.declared.Verdict.{Verdict}
 use Rattle.verdict.specs.Flow.{FlowIs, sound, faulty}
 use Rattle.verdict.proofs.Laws.{some-on, place-of}
@@ -119,17 +120,17 @@ one-words wave words (first {a = a} l below h) (first {a = b} k under g) = by (d
         same : (a b : ℕ) → (a < b → ⊥) → (b < a → ⊥) → a ≡ b
         same a b p q = omega arith
 
--- The check gives one verdict and one content of marks. A lent buffer keeps its length.
-pub one-answer-check : (wave : ℕ) (words marks : List ℕ) {v w : Verdict} {ns os : List ℕ} → length ns ≡ length os
+-- The check gives one verdict and one content of marks.
+pub one-answer-check : (wave : ℕ) (words marks : List ℕ) {v w : Verdict} {ns os : List ℕ}
     → CheckIs wave words marks v ns → CheckIs wave words marks w os → (v ≡ w) × (ns ≡ os)
-one-answer-check wave words marks e (input _) (input _) = (refl, refl)
-one-answer-check wave words marks e (input h) (word z _ _) = absurd (h z)
-one-answer-check wave words marks e (input h) (flow z _ _ _) = absurd (h z)
-one-answer-check wave words marks e (word z _ _) (input h) = absurd (h z)
-one-answer-check wave words marks e (word _ p _) (word _ q _) = (one-words wave words p q, refl)
-one-answer-check wave words marks e (word _ p h) (flow _ all _ _) = absurd (h (ap (λ (x : Verdict). x .refusal .number) (one-words wave words p (passed all))))
-one-answer-check wave words marks e (flow z _ _ _) (input h) = absurd (h z)
-one-answer-check wave words marks e (flow _ all _ _) (word _ p h) = absurd (h (ap (λ (x : Verdict). x .refusal .number) (one-words wave words p (passed all))))
-one-answer-check wave words marks {ns = ns} {os = os} e (flow _ _ m f) (flow _ _ k g) =
+one-answer-check wave words marks (input _) (input _) = (refl, refl)
+one-answer-check wave words marks (input h) (word z _ _) = absurd (h z)
+one-answer-check wave words marks (input h) (flow z _ _ _) = absurd (h z)
+one-answer-check wave words marks (word z _ _) (input h) = absurd (h z)
+one-answer-check wave words marks (word _ p _) (word _ q _) = (one-words wave words p q, refl)
+one-answer-check wave words marks (word _ p h) (flow _ all _ _) = absurd (h (ap (λ (x : Verdict). x .refusal .number) (one-words wave words p (passed all))))
+one-answer-check wave words marks (flow z _ _ _) (input h) = absurd (h z)
+one-answer-check wave words marks (flow _ all _ _) (word _ p h) = absurd (h (ap (λ (x : Verdict). x .refusal .number) (one-words wave words p (passed all))))
+one-answer-check wave words marks {ns = ns} {os = os} (flow _ _ m f) (flow _ _ k g) =
     let o = one-flow stackDepth words f g in
-    (ap₂ (λ (x y : ℕ). verdict (numbered x) y) (o .0) (o .1), one-marks stackDepth words marks ns os e (m .exact) (k .exact) (m .tail) (k .tail))
+    (ap₂ (λ (x y : ℕ). verdict (numbered x) y) (o .0) (o .1), one-marks stackDepth words marks ns os (m .long ∙ sym (k .long)) (m .exact) (k .exact) (m .tail) (k .tail))

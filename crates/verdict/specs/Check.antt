@@ -7,6 +7,7 @@ use mathlib.Core.List.{List}
 use lib.Dec.{ltb, eqb}
 use lib.ListN.{length}
 use Rattle.instruction.specs.Bits.{_gives_else_}
+use Rattle.instruction.specs.Form.{numbered}
 use Rattle.instruction.specs.declared.Refusal.{Refusal}
 use Rattle.sequence.specs.Bounds.{stackDepth, lengthsRefused}
 use Rattle.walk.specs.Marks.{Marked}
@@ -16,9 +17,6 @@ use Rattle.verdict.specs.declared.Verdict.{Verdict}
 
 abbrev pub verdict : Refusal → ℕ → Verdict
 verdict refusal place = record { refusal = refusal; place = place }
-
-abbrev pub numbered : ℕ → Refusal
-numbered number = record { number = number }
 
 -- 1, 2, 3, then "4 marks shorter than the words (check only)"; 0 where none is given
 unfoldable pub inputRefused : ℕ → ℕ → ℕ → ℕ

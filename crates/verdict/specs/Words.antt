@@ -7,6 +7,7 @@ use mathlib.Core.List.{List, [], _∷_}
 use lib.Dec.{eqb}
 use lib.ListN.{length, getD, drop}
 use Rattle.instruction.specs.Bits.{_gives_else_}
+use Rattle.instruction.specs.Form.{numbered}
 use Rattle.instruction.specs.Word.{spelledBy}
 use Rattle.instruction.specs.declared.Instruction.{Instruction}
 use Rattle.instruction.specs.declared.Refusal.{Refusal}
@@ -44,7 +45,7 @@ standsRefused wave n above i =
 -- form first
 abbrev pub refusedAs : ℕ → ℕ → List ℕ → Reading → Refusal
 refusedAs wave n above (Refused r) = r
-refusedAs wave n above (Accepted i) = record { number = standsRefused wave n above i }
+refusedAs wave n above (Accepted i) = numbered (standsRefused wave n above i)
 
 -- the refusal of the word at an address; number 0 passes
 unfoldable pub wordRefusal : ℕ → List ℕ → ℕ → Refusal

@@ -4,6 +4,7 @@ ghost use mathlib.Core.Path.{_≡_};
 ghost use Prim.Native.Nat.{_≤_};
 ghost use Prim.Native.Nat.{_<_, _+_, _-_};
 ghost use lib.ListN.{length, drop};
+ghost use Rattle.flow.specs.Walk.{deepest};
 ghost use Rattle.sequence.specs.Bounds.{groupSize};
 ghost use Rattle.verdict.specs.Flow.{faultIn, FlowIs, CanJudge};
 ghost use Rattle.verdict.specs.Words.{isEngineWord, isHigh, closes, leftOpen, standsRefused, wordRefusal};
@@ -23,17 +24,9 @@ pub struct Verdict {
     pub place: usize,
 }
 
-impl Verdict {
-    pub const PAST_THE_END: u64 = 30;
-
-    pub const STACK_FULL: u64 = 31;
-
-    pub const STACK_EMPTY: u64 = 32;
-}
-
 // 31, 32 or 0, of a word and its mark.
 fn fault_of(o: Move, m: u64, limit: u64) -> u64
-    requires { ⌜ limit ≤ 31 ⌝ }
+    requires { ⌜ limit ≤ deepest ⌝ }
     ensures { λ r. ⌜ r ≡ faultIn limit o m ⌝ }
 {
     let deepest = m / Mark::at(limit) % 4;
@@ -41,8 +34,12 @@ fn fault_of(o: Move, m: u64, limit: u64) -> u64
         Move::Other => 0,
         Move::Compare => 0,
         Move::Jump(_) => 0,
-        Move::Enter(_) => if deepest == 0 { 0 } else { Verdict::STACK_FULL },
-        Move::Leave => if m % 4 == 0 { 0 } else { Verdict::STACK_EMPTY },
+        Move::Enter(_) => if deepest == 0 {
+            0
+        } else {
+            Sequence::STACK_FULL
+        },
+        Move::Leave => if m % 4 == 0 { 0 } else { Sequence::STACK_EMPTY },
         Move::Loop(_) => 0,
     }
 }
@@ -71,7 +68,7 @@ pub fn judge(words: &[u64], marks: &[u64], limit: u64) -> Verdict
     if x != 0 {
         return Verdict {
             refusal: Refusal {
-                number: Verdict::PAST_THE_END,
+                number: Sequence::PAST_THE_END,
             },
             place: n,
         };

@@ -17,7 +17,7 @@ use Rattle.flow.specs.declared.Move.{Move}
 use Rattle.flow.specs.declared.Move.the-variants.{Other, Compare, Jump, Enter, Leave, Loop}
 use Rattle.flow.specs.Masks.{nextOf, jumpOf, toOf}
 use Rattle.flow.specs.Move.{moveAt}
-use Rattle.flow.specs.Walk.{On, place, Reached, start}
+use Rattle.flow.specs.Walk.{deepest, On, place, Reached, start}
 use Rattle.flow.proofs.Rules.{Onward, plain-on, cmp-on, goto-on, call-on, return-on, repeat-on, Leaps, goto-to, call-to, repeat-to, Walked, begin, on, over, back, walked, reached}
 use Rattle.flow.proofs.Bits.{or-left, or-right, or-on, zero-off, high-off, on-bare, bare-on, next-on, back-on, jump-on, Came, stepped, returned, on-next, Leapt, leapt, on-jump}
 use Rattle.walk.specs.Marks.{Exact, Sound, Backs, left, Put, out, same, more, Grew, ClosedAt, Turned, Swept, backIn, Returns, Cleared}
@@ -201,7 +201,7 @@ returns-more ws ms i r g = record { from = from; whole = whole }
         (λ q. let w = back-in (moveAt ws i) (getD ms i 0) d q in (i, w .1 .0, omega arith, w .0, w .1 .1))
         (or-on (2 * d) r x p)
 
-    whole : (a d : ℕ) (c : Bool) → d < 32 → a < i + 1 → moveAt ws a ≡ Leave → On (place d c) (getD ms a 0) → On (2 * d) (bitOr r x)
+    whole : (a d : ℕ) (c : Bool) → d ≤ deepest → a < i + 1 → moveAt ws a ≡ Leave → On (place d c) (getD ms a 0) → On (2 * d) (bitOr r x)
     whole a d c h l o p =
         ⊎-elim
         (λ e. or-right (2 * d) r x
@@ -236,12 +236,12 @@ depth (back p _ _ q _ _) = depth q
 
 -- ---- closed marks hold all that is reached
 
-module _ (lim : ℕ) (ws : List ℕ) (r : ℕ) (ms : List ℕ) (small : lim ≤ 31) (begins : On 0 (getD ms 0 0)) (rs : Returns ws ms (length ws) r)
+module _ (lim : ℕ) (ws : List ℕ) (r : ℕ) (ms : List ℕ) (small : lim ≤ deepest) (begins : On 0 (getD ms 0 0)) (rs : Returns ws ms (length ws) r)
     (closed : (k : ℕ) → k < length ws → ClosedAt lim ws r ms k) where
   land : (k i x : ℕ) → On k x → bitOr (getD ms i 0) x ≡ getD ms i 0 → On k (getD ms i 0)
   land k i x p e = subst (λ (z : ℕ). On k z) e (or-right k (getD ms i 0) x p)
 
-  narrow : {d : ℕ} → d ≤ lim → d < 32
+  narrow : {d : ℕ} → d ≤ lim → d ≤ deepest
   narrow l = omega arith
 
   marked : {a d : ℕ} {c : Bool} → Walked lim ws a d c → a < length ws → On (place d c) (getD ms a 0)
@@ -275,7 +275,7 @@ clear-low ns a l all k h = go (ℕ-discrete k a)
 -- ---- the end
 
 -- a sweep that changed nothing, with the depths of RETURN that were marked before it, leaves the least set
-pub settled : (lim : ℕ) (ws : List ℕ) (r : ℕ) (ms ns : List ℕ) → lim ≤ 31 → Sound lim ws ms → On 0 (getD ms 0 0) → Returns ws ms (length ws) r → Swept lim ws r ms ns (length ws) false → Exact lim ws ns
+pub settled : (lim : ℕ) (ws : List ℕ) (r : ℕ) (ms ns : List ℕ) → lim ≤ deepest → Sound lim ws ms → On 0 (getD ms 0 0) → Returns ws ms (length ws) r → Swept lim ws r ms ns (length ws) false → Exact lim ws ns
 settled lim ws r ms ns t s b g w = subst (λ (z : List ℕ). Exact lim ws z) (sym (w .0)) (exact lim ws r ms t b g (w .1) s)
 
 -- ---- the start

@@ -12,7 +12,7 @@ use Rattle.flow.specs.declared.Move.the-variants.{Other, Compare, Jump, Enter, 
 use Rattle.walk.specs.declared.Visited.{Visited}
 use Rattle.flow.specs.Masks.{bareOf, nextOf, jumpOf, toOf}
 use Rattle.flow.specs.Move.{moveAt}
-use Rattle.flow.specs.Walk.{On, place, Reached}
+use Rattle.flow.specs.Walk.{deepest, On, place, Reached}
 
 -- the public claim: below the words' length a bit is set exactly where its place is reached
 pub record Exact (lim : ℕ) (ws ms : List ℕ) : Type 0 where
@@ -76,7 +76,7 @@ backIn (Loop t) m = 0
 -- r has the depths at which a RETURN below n is marked
 pub record Returns (ws ms : List ℕ) (n r : ℕ) : Type 0 where
   pub from : (d : ℕ) → On (2 * d) r → (a : ℕ) × (c : Bool) × (a < n) × (moveAt ws a ≡ Leave) × On (place d c) (getD ms a 0)
-  pub whole : (a d : ℕ) (c : Bool) → d < 32 → a < n → moveAt ws a ≡ Leave → On (place d c) (getD ms a 0) → On (2 * d) r
+  pub whole : (a d : ℕ) (c : Bool) → d ≤ deepest → a < n → moveAt ws a ≡ Leave → On (place d c) (getD ms a 0) → On (2 * d) r
 
 pub record Cleared (n : ℕ) (ms ns : List ℕ) : Type 0 where
   pub clear : (a : ℕ) → a < n → getD ns a 0 ≡ 0
@@ -88,7 +88,7 @@ pub record Cleared (n : ℕ) (ms ns : List ℕ) : Type 0 where
 pub record Fits (ws ms : List ℕ) (len lim : ℕ) : Type 0 where
   pub marks : length ws ≤ length ms
   pub room : len ≤ wordLimit
-  pub limit : lim ≤ 31
+  pub limit : lim ≤ deepest
 
 pub record PutDone (n : ℕ) (ms : List ℕ) (i x len : ℕ) (ns : List ℕ) (v : Visited) : Type 0 where
   pub room : v .len ≤ wordLimit
@@ -126,7 +126,8 @@ pub record CanSettle (lim : ℕ) (ws ms : List ℕ) : Type 0 where
   pub sound : Sound lim ws ms
   pub start : On 0 (getD ms 0 0)
 
--- the walk: exact marks for the words, and the tail as it was
+-- the walk: exact marks for the words, in a buffer as long as before, and the tail as it was
 pub record Marked (lim : ℕ) (ws ms ns : List ℕ) : Type 0 where
+  pub long : length ns ≡ length ms
   pub exact : Exact lim ws ns
   pub tail : (a : ℕ) → length ws ≤ a → getD ns a 0 ≡ getD ms a 0

@@ -8,6 +8,7 @@ ghost use Rattle.walk.specs.Marks.{backIn, Returns, Cleared, Fits, PutDo
 use flow::Mark;
 use flow::Move;
 use flow::Moves;
+use sequence::Sequence;
 
 // How many hints are held after a visit, and whether it set a bit.
 pub struct Visited {
@@ -16,14 +17,19 @@ pub struct Visited {
 }
 
 // A hint that an address is worth a visit. It may be dropped.
-fn push(stack: &mut [usize; 65536], on: &mut [u8; 65536], len: usize, a: usize) -> usize
+fn push(
+    stack: &mut [usize; Sequence::WORDS as usize],
+    on: &mut [u8; Sequence::WORDS as usize],
+    len: usize,
+    a: usize,
+) -> usize
     requires { ⌜ len ≤ wordLimit ⌝ }
     ensures { λ r. ⌜ r ≤ wordLimit ⌝ }
 {
-    if 65536 <= a {
+    if Sequence::WORDS as usize <= a {
         return len;
     }
-    if 65536 <= len {
+    if Sequence::WORDS as usize <= len {
         return len;
     }
     if on[a] != 0 {
@@ -40,8 +46,8 @@ fn put(
     marks: &mut [u64],
     at: usize,
     x: u64,
-    stack: &mut [usize; 65536],
-    on: &mut [u8; 65536],
+    stack: &mut [usize; Sequence::WORDS as usize],
+    on: &mut [u8; Sequence::WORDS as usize],
     len: usize,
 ) -> Visited
     requires { ⌜ (n ≤ length (now marks)) × (len ≤ wordLimit) ⌝ }
@@ -73,8 +79,8 @@ fn put(
 fn visit(
     words: &[u64],
     marks: &mut [u64],
-    stack: &mut [usize; 65536],
-    on: &mut [u8; 65536],
+    stack: &mut [usize; Sequence::WORDS as usize],
+    on: &mut [u8; Sequence::WORDS as usize],
     len: usize,
     a: usize,
     back: u64,
@@ -101,8 +107,8 @@ fn visit(
 fn take_hint(
     words: &[u64],
     marks: &mut [u64],
-    stack: &mut [usize; 65536],
-    on: &mut [u8; 65536],
+    stack: &mut [usize; Sequence::WORDS as usize],
+    on: &mut [u8; Sequence::WORDS as usize],
     len: usize,
     back: u64,
     limit: u64,
@@ -114,7 +120,7 @@ fn take_hint(
     if words.len() <= a {
         return len;
     }
-    if a < 65536 {
+    if a < Sequence::WORDS as usize {
         on[a] = 0;
     }
     let v = visit(words, marks, stack, on, len, a, back, limit);
@@ -125,8 +131,8 @@ fn take_hint(
 fn drain(
     words: &[u64],
     marks: &mut [u64],
-    stack: &mut [usize; 65536],
-    on: &mut [u8; 65536],
+    stack: &mut [usize; Sequence::WORDS as usize],
+    on: &mut [u8; Sequence::WORDS as usize],
     len: usize,
     back: u64,
     limit: u64,
@@ -145,8 +151,8 @@ fn drain(
 fn follow(
     words: &[u64],
     marks: &mut [u64],
-    stack: &mut [usize; 65536],
-    on: &mut [u8; 65536],
+    stack: &mut [usize; Sequence::WORDS as usize],
+    on: &mut [u8; Sequence::WORDS as usize],
     len: usize,
     a: usize,
     back: u64,
@@ -170,8 +176,8 @@ fn follow(
 fn sweep(
     words: &[u64],
     marks: &mut [u64],
-    stack: &mut [usize; 65536],
-    on: &mut [u8; 65536],
+    stack: &mut [usize; Sequence::WORDS as usize],
+    on: &mut [u8; Sequence::WORDS as usize],
     back: u64,
     limit: u64,
 ) -> bool
@@ -223,8 +229,8 @@ fn settle(words: &[u64], marks: &mut [u64], limit: u64)
     requires { ⌜ CanSettle limit (now words) (now marks) ⌝ }
     ensures { λ _. ⌜ Marked limit (now (words .entry)) (now (marks .entry)) (now (marks .exit)) ⌝ }
 {
-    let mut stack = [0usize; 65536];
-    let mut on = [0u8; 65536];
+    let mut stack = [0usize; Sequence::WORDS as usize];
+    let mut on = [0u8; Sequence::WORDS as usize];
     loop {
         let back = returned(words, marks);
         if !sweep(words, marks, &mut stack, &mut on, back, limit) {

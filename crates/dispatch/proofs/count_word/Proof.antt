@@ -3,7 +3,8 @@ use mathlib.Core.Path.{_≡_, sym, ap, _∙_, subst}
 use Prim.Native.Nat.{_*_, _^_, _≤_, _<_}
 use denote.Ref.{now}
 use native.Mathlib.Omega.{arith}
-use Rattle.instruction.specs.Table.{codeOf}
+use Rattle.instruction.specs.Bits.{span}
+use Rattle.instruction.specs.Table.{engineSelect, codeOf}
 use Rattle.instruction.specs.Word.{spelledBy}
 use Rattle.instruction.specs.declared.Instruction.{Instruction}
 use Rattle.dispatch.specs.Engines.{engineOf, waitsFor, playsFor, addTo, totalsAfter}
@@ -38,7 +39,7 @@ spelled-by-requires : tie.Need-spelled-by-requires
 spelled-by-requires c κs = search needs
 
 of-requires : tie.Need-of-requires
-of-requires c κs = subst (λ (i : Instruction). i .engine < 4) (sym (c .spelled-by .ensures)) (spelled-engine (c .before .args .word))
+of-requires c κs = subst (λ (i : Instruction). i .engine < span engineSelect) (sym (c .spelled-by .ensures)) (spelled-engine (c .before .args .word))
 
 mul-totals : tie.Need-mul-totals
 mul-totals c = omega (arith, engine-lt c)

@@ -1,7 +1,7 @@
 -- By what the word reads as.
 use mathlib.Core.Path.{sym, ap, _∙_}
 use borrow.Author.Needs.{needs}
-use Rattle.verdict.specs.Check.{numbered}
+use Rattle.instruction.specs.Form.{numbered}
 use Rattle.verdict.proofs.Words.{refusal-at}
 use Rattle.verdict.proofs.word_refusal.Statement.{statement}
 use Rattle.verdict.proofs.word_refusal.Tie as tie

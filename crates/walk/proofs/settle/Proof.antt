@@ -37,6 +37,7 @@ returns c =
     let l = c .before .before .before .before .before .before .before .before .before .loop in
     let s = c .before .before .before .before .before .before .before .before .before .before .before .before .args in
     record {
+      long = w .ensures .grew .long ∙ l .inv .1;
       exact = settled (s .limit) (s .words .now) (r .result) (l .marks) (w .last .1 .0) (c .before .before .before .before .before .before .before .before .before .before .before .before .pre .fits .limit) (l .inv .2) (l .inv .3) (r .ensures)
           (subst (λ (z : Bool). Swept (s .limit) (s .words .now) (r .result) (l .marks) (w .last .1 .0) (length (s .words .now)) z) (not-true (w .result) (c .if1 .taken)) (w .ensures .swept));
       tail = λ a h. w .ensures .grew .tail a h ∙ l .inv .4 a h;

@@ -4,6 +4,7 @@ use Prim.Native.Nat.{ℕ, _*_, _%_, _^_, _≤_, _<_}
 use native.Mathlib.Nat.{mod-lt}
 use native.Mathlib.Omega.{arith}
 use lib.Pow.{pow-pos, pow-mono}
+use Rattle.flow.specs.Walk.{deepest}
 use Rattle.flow.specs.Masks.{deeperOf}
 use borrow.Author.Needs.{needs}
 use Rattle.flow.proofs.Mark.deeper.Statement.{statement}
@@ -22,7 +23,7 @@ mul-result : tie.Need-mul-result
 mul-result c =
     let b = c .before .at in
     let k = 2 * c .before .before .args .limit in
-    let l : c .before .before .args .limit ≤ 31 = c .before .before .pre in
+    let l : c .before .before .args .limit ≤ deepest = c .before .before .pre in
     let n : 2 ^ k ≤ 2 ^ 62 = pow-mono {j = 62} (omega arith) in
     let p : 0 < b .result = subst (λ (x : ℕ). 0 < x) (sym (b .ensures)) (pow-pos k) in
     let h : c .bare .result % b .result < b .result = mod-lt (c .bare .result) p in
