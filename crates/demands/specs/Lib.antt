@@ -1,2 +1,3 @@
 pub mod Word
 pub mod Run
+pub mod Check

@@ -130,7 +130,7 @@ module _ (lim : ℕ) (ws ms : List ℕ) (ex : Exact lim ws ms) where
 
 -- ---- past the end
 
-jump-to : {lim : ℕ} {o : Move} {d : ℕ} {c : Bool} {t e : ℕ} {h : Bool} → Leaps lim o d c t e h → toOf o ≡ t
+pub jump-to : {lim : ℕ} {o : Move} {d : ℕ} {c : Bool} {t e : ℕ} {h : Bool} → Leaps lim o d c t e h → toOf o ≡ t
 jump-to goto-to = refl
 jump-to (call-to _) = refl
 jump-to repeat-to = refl

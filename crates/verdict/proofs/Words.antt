@@ -2,7 +2,7 @@
 -- Assumes nothing.
 use Prim.Native.Nat.{ℕ, zero, suc, _+_, _-_, _≤_, _<_}
 use mathlib.Core.Path.{_≡_, refl, sym, ap, subst, _∙_}
-use mathlib.Core.Bool.{true, false, _||_, _&&_}
+use mathlib.Core.Bool.{Bool, true, false, _||_, _&&_}
 use mathlib.Core.List.{List, [], _∷_}
 use native.Mathlib.Nat.{le-of-suc-le-suc}
 use native.Mathlib.Numerals.{add-one}
@@ -11,16 +11,17 @@ use native.Mathlib.Omega.{arith}
 use borrow.Author.Tests.{eq-eqb, ne-eqb, le-ltb, lt-ltb, leb-false}
 use lib.ListN.{length, getD, drop}
 use Rattle.instruction.specs.Table.{noopWord}
-use Rattle.instruction.specs.Word.{spelledBy}
+use Rattle.instruction.specs.Word.{spelledBy, noop}
 use Rattle.instruction.specs.declared.Body.{Body}
 use Rattle.instruction.specs.declared.Body.the-variants.{Waveform, Marker, Wait, LoadRepeat, Repeat, Cmp, Goto, Call, Return, Sync, Modulator, LoadCmp, Prefetch, Noop}
 use Rattle.instruction.specs.declared.Instruction.{Instruction}
 use Rattle.instruction.specs.declared.Refusal.{Refusal}
 use Rattle.reader.specs.Reading.{readingOf, formIn}
 use Rattle.reader.specs.declared.Reading.{Reading}
-use Rattle.reader.proofs.Laws.{reads, refuses}
+use Rattle.reader.specs.declared.Reading.the-variants.{Accepted}
+use Rattle.reader.proofs.Laws.{reads-noop, reads, refuses}
 use Rattle.sequence.specs.Bounds.{lengthsRefused}
-use Rattle.sequence.specs.Placing.{outOfWords, placingOf}
+use Rattle.sequence.specs.Placing.{isEngine, outOfWords, placingOf}
 use Rattle.sequence.proofs.Laws.{placed-words}
 use Rattle.flow.specs.Masks.{toOf}
 use Rattle.flow.specs.Move.{moveOf, moveAt}
@@ -84,12 +85,13 @@ module _ (wave n : ℕ) (above : List ℕ) (i : Instruction) where
   unfolding standsRefused
   stands-well e o = rw (eq-eqb _ _ e, o)
 
-  stood : standsRefused wave n above i ≡ 0 → placingOf wave n (i .body) ≡ 0
-  stood z = by (ℕ-discrete (placingOf wave n (i .body)) 0)
+  stood : standsRefused wave n above i ≡ 0 → (placingOf wave n (i .body) ≡ 0) × (leftOpen i above ≡ false)
+  stood z = by (ℕ-discrete (placingOf wave n (i .body)) 0) (leftOpen i above) refl
     where
-      by : Dec (placingOf wave n (i .body) ≡ 0) → placingOf wave n (i .body) ≡ 0
-      by (yes e) = e
-      by (no h) = sym (stands-placed h) ∙ z
+      by : Dec (placingOf wave n (i .body) ≡ 0) → (b : Bool) → leftOpen i above ≡ b → (placingOf wave n (i .body) ≡ 0) × (leftOpen i above ≡ false)
+      by (no h) b o = let e = sym (stands-placed h) ∙ z in absurd (h e)
+      by (yes e) true o = let q = sym (stands-open e o) ∙ z in absurd (omega arith)
+      by (yes e) false o = (e, o)
 
 pub refusal-at : (wave : ℕ) (words : List ℕ) (a : ℕ) {reading : Reading} → readingOf (getD words a 0) ≡ reading → wordRefusal wave words a ≡ refusedAs wave (length words) (drop (a + 1) words) reading
 unfolding wordRefusal
@@ -113,25 +115,52 @@ target-body n (LoadCmp r) p e = p
 target-body n (Prefetch a) p e = p
 target-body n Noop p e = p
 
-noop-moves : toOf (moveOf (spelledBy noopWord .body)) ≡ 0
+noop-spelled : spelledBy noopWord .body ≡ Noop
 unfolding spelledBy
-noop-moves = refl
+noop-spelled = refl
 
-pub target : (wave : ℕ) (words : List ℕ) (a : ℕ) → 0 < length words → Passes wave words a → toOf (moveAt words a) < length words
-target wave words a p e = by (ℕ-discrete w noopWord)
+-- what a word that passes is: an instruction that is placed and whose group closes, and what the walk and the groups take it for
+pub record Stands (wave : ℕ) (words : List ℕ) (a : ℕ) : Type 0 where
+  pub instruction : Instruction
+  pub reads : readingOf (getD words a 0) ≡ Accepted instruction
+  pub placed : placingOf wave (length words) (instruction .body) ≡ 0
+  pub closed : leftOpen instruction (drop (a + 1) words) ≡ false
+  pub body : spelledBy (getD words a 0) .body ≡ instruction .body
+  pub flag : isEngine (instruction .body) ≡ true → spelledBy (getD words a 0) .write ≡ instruction .write
+
+pub stands : (wave : ℕ) (words : List ℕ) (a : ℕ) → Passes wave words a → Stands wave words a
+stands wave words a e = by (ℕ-discrete w noopWord)
   where
     w : ℕ
     w = getD words a 0
 
-    form : (w ≡ noopWord → ⊥) → Dec (formIn w ≡ 0) → toOf (moveOf (spelledBy w .body)) < length words
+    good : (i : Instruction) → readingOf w ≡ Accepted i → standsRefused wave (length words) (drop (a + 1) words) i ≡ 0
+    good i r = sym (ap (λ (q : Refusal). q .number) (refusal-at wave words a r)) ∙ e
+
+    form : (w ≡ noopWord → ⊥) → Dec (formIn w ≡ 0) → Stands wave words a
     form h (yes z) =
-        target-body (length words) (spelledBy w .body) p
-        (placed-words wave (length words) (spelledBy w .body) (stood wave (length words) (drop (a + 1) words) (spelledBy w) (sym (ap (λ (r : Refusal). r .number) (refusal-at wave words a (reads w h z))) ∙ e)))
+        let s = stood wave (length words) (drop (a + 1) words) (spelledBy w) (good (spelledBy w) (reads w h z)) in
+        record { instruction = spelledBy w; reads = reads w h z; placed = s .0; closed = s .1; body = refl; flag = λ _. refl }
     form h (no z) = absurd (z (sym (ap (λ (r : Refusal). r .number) (refusal-at wave words a (refuses w h z))) ∙ e))
 
-    by : Dec (w ≡ noopWord) → toOf (moveOf (spelledBy w .body)) < length words
-    by (yes z) = subst (λ (x : ℕ). toOf (moveOf (spelledBy x .body)) < length words) (sym z) (subst (λ (t : ℕ). t < length words) (sym noop-moves) p)
+    by : Dec (w ≡ noopWord) → Stands wave words a
+    by (yes z) =
+        let s = stood wave (length words) (drop (a + 1) words) noop (good noop (reads-noop w z)) in
+        record {
+          instruction = noop;
+          reads = reads-noop w z;
+          placed = s .0;
+          closed = s .1;
+          body = ap (λ (x : ℕ). spelledBy x .body) z ∙ noop-spelled;
+          flag = λ q. let x : _≡_ {A = ℕ} 0 1 = cc in absurd (omega arith);
+        }
     by (no h) = form h (ℕ-discrete (formIn w) 0)
+
+pub target : (wave : ℕ) (words : List ℕ) (a : ℕ) → 0 < length words → Passes wave words a → toOf (moveAt words a) < length words
+target wave words a p e =
+    let s = stands wave words a e in
+    subst (λ (b : Body). toOf (moveOf b) < length words) (sym (s .body))
+    (target-body (length words) (s .instruction .body) p (placed-words wave (length words) (s .instruction .body) (s .placed)))
 
 pub targets : (wave : ℕ) (words : List ℕ) → 0 < length words → ((a : ℕ) → a < length words → Passes wave words a) → Targets words
 targets wave words p all a l = target wave words a p (all a l)
@@ -150,6 +179,13 @@ module _ (n wave room : ℕ) where
   pub input-none : lengthsRefused n wave ≡ 0 → n ≤ room → inputRefused n wave room ≡ 0
   unfolding inputRefused
   input-none h l = rw (h, le-ltb room n l)
+
+  pub input-lengths-good : inputRefused n wave room ≡ 0 → lengthsRefused n wave ≡ 0
+  input-lengths-good z = by (ℕ-discrete (lengthsRefused n wave) 0)
+    where
+      by : Dec (lengthsRefused n wave ≡ 0) → lengthsRefused n wave ≡ 0
+      by (yes e) = e
+      by (no h) = sym (input-lengths h) ∙ z
 
   lengths-some : lengthsRefused n wave ≡ 0 → 0 < n
   unfolding lengthsRefused
