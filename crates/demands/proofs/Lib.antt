@@ -1,7 +1,9 @@
 pub mod Fields
 pub mod Word
 pub mod Steps
-pub mod Prefix
 pub mod Runs
+pub mod Prefix
 pub mod Exact
 pub mod Faults
+pub mod Certificate
+pub mod Worked

@@ -1,3 +1,4 @@
 pub mod Word
 pub mod Run
 pub mod Check
+pub mod Worked
