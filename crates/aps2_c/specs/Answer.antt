@@ -1,14 +1,18 @@
--- The 54 numbers in which C gets the answer of a run: 0 end, 1 address, 2 steps, 3 messages used, 4 trace length, 5 to 10 wait counts,
+-- What C gets of a run, in 54 numbers, and of a check. 0 end, 1 address, 2 steps, 3 messages used, 4 trace length, 5 to 10 wait counts,
 -- 11 to 16 totals, 17 repeat counter, 18 register, 19 condition (0 none, 1 false, 2 true), 20 held, 21 depth, 22 to 37 stack addresses, 38 to 53 stack counters.
 use mathlib.Core.Path.{_≡_}
 use mathlib.Core.List.{List, [], _∷_}
 use Prim.Native.Nat.{ℕ, zero, suc}
 use lib.ListN.{getD}
+use Rattle.instruction.specs.Form.{numbered}
+use Rattle.sequence.specs.Bounds.{stackDepth}
+use Rattle.dispatch.specs.Engines.{engineCount}
 use Rattle.machine.specs.State.{Did}
 use Rattle.machine.specs.declared.Condition.{Condition}
 use Rattle.machine.specs.declared.Condition.the-variants.{Absent, Fails, Holds}
 use Rattle.rehearsal.specs.Run.{Rehearsed}
 use Rattle.rehearsal.specs.declared.Answer.{Answer}
+use Rattle.verdict.specs.Check.{verdict, CheckIs}
 
 abbrev pub conditionOf : Condition → ℕ
 conditionOf Absent = 0
@@ -24,9 +28,9 @@ abbrev pub flatWith : ℕ → Answer → List ℕ
 flatWith condition a =
     let c = a .state .core in
     a .end .number ∷ c .address .0 ∷ c .steps ∷ c .used ∷ c .sent
-    ∷ itemsThen 0 6 (a .state .waits) (itemsThen 0 6 (a .state .totals)
+    ∷ itemsThen 0 engineCount (a .state .waits) (itemsThen 0 engineCount (a .state .totals)
     (c .counter ∷ c .register ∷ condition ∷ c .held ∷ c .depth
-    ∷ itemsThen 0 16 (a .state .returns) (itemsThen 0 16 (a .state .counters) [])))
+    ∷ itemsThen 0 stackDepth (a .state .returns) (itemsThen 0 stackDepth (a .state .counters) [])))
 
 abbrev pub flatOf : Answer → List ℕ
 flatOf a = flatWith (conditionOf (a .state .core .condition)) a
@@ -39,3 +43,9 @@ pub record Ran (d : Did) (before after given : List ℕ) (r : ℕ) : Type 0 wher
   pub number : r ≡ d .end .number
   pub answer : given ≡ flatOf (answerOf d)
   pub trace : Rehearsed d before after (answerOf d)
+
+-- what `aps2_check` answers, and what it leaves in the marks and in the place
+pub record Checked (wave : ℕ) (words before after given : List ℕ) (r : ℕ) : Type 0 where
+  pub at : ℕ
+  pub place : given ≡ at ∷ []
+  pub verdict : CheckIs wave words before (verdict (numbered r) at) after

@@ -1,7 +1,7 @@
 -- The eight numbers by which C names an instruction: op code (15 for NOOP), engine select, write flag, then the table's fields
 -- left to right (RETURN and LOAD_CMP: the payload; WAIT and SYNC: none), and zeros after.
 use mathlib.Core.Path.{_≡_}
-use Prim.Native.Nat.{ℕ, zero, suc}
+use Prim.Native.Nat.{ℕ, zero, suc, _-_}
 use mathlib.Core.Bool.{Bool, false, _||_, _&&_}
 use mathlib.Core.List.{List, [], _∷_}
 use lib.Dec.{eqb, leb}
@@ -17,6 +17,9 @@ use Rattle.reader.specs.declared.Reading.{Reading}
 use Rattle.reader.specs.declared.Reading.the-variants.{Accepted, Refused}
 use Rattle.writer.specs.Writing.{writtenOf}
 use Rattle.writer.specs.declared.Written.{Written}
+
+abbrev pub fieldCount : ℕ
+fieldCount = 8
 
 -- ---- reading
 
@@ -34,12 +37,12 @@ abbrev pub shownOf : Body → List ℕ
 shownOf b = pick (isOwn (codeOf b)) [] (valuesOf b)
 
 abbrev pub fieldsOf : Instruction → List ℕ
-fieldsOf i = codeOf (i .body) ∷ i .engine ∷ i .write ∷ paddedTo 5 (shownOf (i .body))
+fieldsOf i = codeOf (i .body) ∷ i .engine ∷ i .write ∷ paddedTo (fieldCount - 3) (shownOf (i .body))
 
 -- the fields of a reading; "A refused word leaves zeros"
 abbrev pub told : Reading → List ℕ
 told (Accepted i) = fieldsOf i
-told (Refused r) = paddedTo 8 []
+told (Refused r) = paddedTo fieldCount []
 
 -- what `aps2_read` answers
 pub record Read (reading : Reading) (r : ℕ) (fs : List ℕ) : Type 0 where

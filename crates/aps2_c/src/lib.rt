@@ -2,14 +2,12 @@
 // Nothing is kept, nothing is allocated, and nothing is read past what is lent.
 ghost use mathlib.Core.Path.{_≡_};
 ghost use mathlib.Core.Bool.{false};
-ghost use lib.ListN.{length, getD};
-ghost use Rattle.instruction.specs.Form.{numbered};
+ghost use lib.ListN.{length};
 ghost use Rattle.instruction.specs.Table.{bodyOf};
 ghost use Rattle.reader.specs.Reading.{readingOf};
 ghost use Rattle.machine.specs.State.{fixedBy};
 ghost use Rattle.rehearsal.specs.Run.{rehearse};
-ghost use Rattle.verdict.specs.Check.{verdict, CheckIs};
-ghost use Rattle.aps2_c.specs.Answer.{conditionOf, flatWith, Ran};
+ghost use Rattle.aps2_c.specs.Answer.{conditionOf, flatWith, Ran, Checked};
 ghost use Rattle.aps2_c.specs.Fields.{shownOf, fieldsOf, Read, isName, filledPast, valuesAsked, wishOf, Wrote};
 use instruction::Body;
 use instruction::Comparison;
@@ -32,7 +30,16 @@ use verdict::check;
 use writer::Written;
 use writer::write;
 
-fn fields_of(i: Instruction) -> [u64; 8]
+// How many numbers C lends for the fields of an instruction, and for the answer of a run.
+pub struct Lent;
+
+impl Lent {
+    pub const FIELDS: usize = 8;
+
+    pub const ANSWER: usize = 54;
+}
+
+fn fields_of(i: Instruction) -> [u64; Lent::FIELDS]
     ensures { λ r. ⌜ r ≡ fieldsOf i ⌝ }
 {
     let body = i.body;
@@ -66,7 +73,7 @@ fn fields_of(i: Instruction) -> [u64; 8]
 }
 
 #[no_mangle]
-pub extern "C" fn aps2_read(word: u64, fields: &mut [u64; 8]) -> u64
+pub extern "C" fn aps2_read(word: u64, fields: &mut [u64; Lent::FIELDS]) -> u64
     ensures { λ r. ⌜ Read (readingOf word) r (now (fields .exit)) ⌝ }
 {
     let reading = read(word);
@@ -76,13 +83,13 @@ pub extern "C" fn aps2_read(word: u64, fields: &mut [u64; 8]) -> u64
             0
         }
         Reading::Refused(r) => {
-            *fields = [0; 8];
+            *fields = [0; Lent::FIELDS];
             r.number
         }
     }
 }
 
-fn body_of(code: u64, fields: &[u64; 8]) -> Body
+fn body_of(code: u64, fields: &[u64; Lent::FIELDS]) -> Body
     ensures { λ r. ⌜ r ≡ bodyOf code (valuesAsked (now (fields .entry))) ⌝ }
 {
     let a = fields[3];
@@ -143,7 +150,7 @@ fn shown_count(body: Body) -> u64
     }
 }
 
-fn filled_past(n: u64, fields: &[u64; 8]) -> bool
+fn filled_past(n: u64, fields: &[u64; Lent::FIELDS]) -> bool
     ensures { λ r. ⌜ r ≡ filledPast false n 0 (valuesAsked (now (fields .entry))) ⌝ }
 {
     (n <= 0) & (fields[3] != 0)
@@ -159,7 +166,7 @@ fn is_name(code: u64) -> bool
     (code <= Body::PREFETCH) | (code == Body::NOOP)
 }
 
-fn wish(fields: &[u64; 8]) -> Written
+fn wish(fields: &[u64; Lent::FIELDS]) -> Written
     ensures { λ r. ⌜ r ≡ wishOf (now (fields .entry)) ⌝ }
 {
     let code = fields[0];
@@ -192,7 +199,7 @@ fn wish(fields: &[u64; 8]) -> Written
 }
 
 #[no_mangle]
-pub extern "C" fn aps2_write(fields: &[u64; 8], word: &mut [u64; 1]) -> u64
+pub extern "C" fn aps2_write(fields: &[u64; Lent::FIELDS], word: &mut [u64; 1]) -> u64
     ensures { λ r. ⌜ Wrote (wishOf (now (fields .entry))) r (now (word .exit)) ⌝ }
 {
     let written = wish(fields);
@@ -210,7 +217,7 @@ fn condition_of(c: Condition) -> u64
     }
 }
 
-fn flat(condition: u64, a: Answer) -> [u64; 54]
+fn flat(condition: u64, a: Answer) -> [u64; Lent::ANSWER]
     ensures { λ r. ⌜ r ≡ flatWith condition a ⌝ }
 {
     let state = a.state;
@@ -284,7 +291,7 @@ pub extern "C" fn aps2_check(
     marks: &mut [u64],
     place: &mut [u64; 1],
 ) -> u64
-    ensures { λ r. ⌜ CheckIs wave (now (words .entry)) (now (marks .entry)) (verdict (numbered r) (getD (now (place .exit)) 0 0)) (now (marks .exit)) ⌝ }
+    ensures { λ r. ⌜ Checked wave (now (words .entry)) (now (marks .entry)) (now (marks .exit)) (now (place .exit)) r ⌝ }
 {
     let v = check(words, wave, marks);
     *place = [v.place as u64];
@@ -299,7 +306,7 @@ pub extern "C" fn aps2_run(
     triggers: u32,
     trace: &mut [u64],
     budget: u64,
-    answer: &mut [u64; 54],
+    answer: &mut [u64; Lent::ANSWER],
 ) -> u64
     ensures { λ r. ⌜ Ran (rehearse budget (fixedBy (now (words .entry)) (now (messages .entry)) (length (now (trace .entry))) (record { wave = record { 0 = wave }; triggers = triggers }))) (now (trace .entry)) (now (trace .exit)) (now (answer .exit)) r ⌝ }
 {

@@ -7,3 +7,4 @@ pub mod Exact
 pub mod Faults
 pub mod Certificate
 pub mod Worked
+pub mod Answers

@@ -21,8 +21,9 @@ use Rattle.dispatch.proofs.Counts.{picks}
 use Rattle.machine.specs.State.{Fixed, Did, fresh, stop}
 use Rattle.machine.specs.Step.{stepOf}
 use Rattle.machine.specs.declared.State.{State}
-use Rattle.rehearsal.specs.Run.{onto, runOf, inputRefused, rehearse}
-use Rattle.demands.specs.Run.{playedOn, awaitedOn, sumOver, TotalsAreSums, WaitsAreCounts, taken, StepsAreTaken}
+use Rattle.rehearsal.proofs.Runs.{onto-onto}
+use Rattle.rehearsal.specs.Run.{onto, thenDid, runOf, inputRefused, rehearse}
+use Rattle.demands.specs.Run.{playedOn, awaitedOn, sumOver, TotalsAreSums, WaitsAreCounts, taken, StepsAreTaken, StepByStep}
 use Rattle.demands.proofs.Steps.{Outcome, stops, flows, sends, outcome, stops-still}
 
 -- ---- the steps counted are the steps taken
@@ -151,3 +152,44 @@ waits-are-counts e b k h =
     ∙ waits-sum (rehearse b e .out) (fresh .waits) k h
     ∙ ap (λ (n : ℕ). n + sumOver (awaitedOn k) (rehearse b e .out)) (zero-at 6 k)
     ∙ zero-add (sumOver (awaitedOn k) (rehearse b e .out))
+
+-- ---- step by step
+
+-- one step more of what d did
+abbrev further : Fixed → Did → Did
+further e d = pick (eqb (d .end .number) 40) (onto (d .out) (runOf 1 e (d .state))) d
+
+further-onto : (e : Fixed) (out : List ℕ) (d : Did) → onto out (further e d) ≡ further e (onto out d)
+further-onto e out d = by (eqb (d .end .number) 40)
+  where
+    by : (b : Bool) → onto out (pick b (onto (d .out) (runOf 1 e (d .state))) d) ≡ pick b (onto (out ++ d .out) (runOf 1 e (d .state))) (onto out d)
+    by true = onto-onto out (d .out) (runOf 1 e (d .state))
+    by false = refl
+
+-- what stopped stops again
+again : (e : Fixed) (s : State) → eqb (stepOf e s .end .number) 0 ≡ false → stepOf e s ≡ further e (stepOf e s)
+unfolding runOf
+again e s f = by (eqb (stepOf e s .end .number) 40)
+  where
+    h : (stepOf e s .state ≡ s) × (stepOf e s .out ≡ [])
+    h = stops-still e s (eqb-false _ _ f)
+
+    once : onto (stepOf e s .out) (thenDid (stepOf e s) (stop 40 (stepOf e s .state))) ≡ stepOf e s
+    once = ap (λ (l : List ℕ). onto l (thenDid (stepOf e s) (stop 40 (stepOf e s .state)))) (h .1) ∙ rw f refl
+
+    by : (b : Bool) → stepOf e s ≡ pick b (onto (stepOf e s .out) (runOf 1 e (stepOf e s .state))) (stepOf e s)
+    by true = sym (ap (λ (t : State). onto (stepOf e s .out) (thenDid (stepOf e t) (stop 40 (stepOf e t .state)))) (h .0) ∙ once)
+    by false = refl
+
+pub step-by-step : StepByStep
+unfolding runOf
+step-by-step e s zero = refl
+step-by-step e s (suc n) = by (eqb (stepOf e s .end .number) 0) refl (step-by-step e (stepOf e s .state) n)
+  where
+    t : State
+    t = stepOf e s .state
+
+    by : (b : Bool) → eqb (stepOf e s .end .number) 0 ≡ b → runOf (suc n) e t ≡ further e (runOf n e t)
+        → pick b (onto (stepOf e s .out) (runOf (suc n) e t)) (stepOf e s) ≡ further e (pick b (onto (stepOf e s .out) (runOf n e t)) (stepOf e s))
+    by true p ih = ap (onto (stepOf e s .out)) ih ∙ further-onto e (stepOf e s .out) (runOf n e t)
+    by false p ih = again e s p

@@ -2,3 +2,4 @@ pub mod Word
 pub mod Run
 pub mod Check
 pub mod Worked
+pub mod Answers

@@ -15,7 +15,7 @@ use Rattle.dispatch.specs.Engines.{engineCount, engineOf, waitsFor, playsFor}
 use Rattle.machine.specs.State.{Fixed}
 use Rattle.machine.specs.Step.{stepOf}
 use Rattle.machine.specs.declared.State.{State}
-use Rattle.rehearsal.specs.Run.{runOf, rehearse}
+use Rattle.rehearsal.specs.Run.{onto, runOf, rehearse}
 
 -- ---- prefix
 
@@ -77,3 +77,9 @@ taken (suc budget) e s = pick (eqb (stepOf e s .end .number) 0) (1 + taken budge
 -- the steps counted are the steps taken
 abbrev pub StepsAreTaken : Type 0
 StepsAreTaken = (e : Fixed) (s : State) (budget : ℕ) → runOf budget e s .state .core .steps ≡ s .core .steps + taken budget e s
+
+-- "demand 2 fixes the state for each budget": one step more of budget adds one step where the budget was spent, and else nothing
+abbrev pub StepByStep : Type 0
+StepByStep =
+    (e : Fixed) (s : State) (budget : ℕ)
+    → runOf (suc budget) e s ≡ pick (eqb (runOf budget e s .end .number) 40) (onto (runOf budget e s .out) (runOf 1 e (runOf budget e s .state))) (runOf budget e s)

@@ -1,0 +1,31 @@
+-- What C gets is one answer: `one-answer-aps2-..`, for each function of the interface. Two answers, with all that is lent, that meet its contract are equal.
+-- Assumes nothing.
+use mathlib.Core.Path.{_≡_, sym, ap, _∙_}
+use mathlib.Core.List.{List, [], _∷_}
+use Prim.Native.Nat.{ℕ}
+use Rattle.reader.specs.declared.Reading.{Reading}
+use Rattle.writer.specs.declared.Written.{Written}
+use Rattle.machine.specs.State.{Did}
+use Rattle.verdict.specs.declared.Verdict.{Verdict}
+use Rattle.verdict.proofs.Unique.{one-answer-check}
+use Rattle.aps2_c.specs.Fields.{Read, Wrote}
+use Rattle.aps2_c.specs.Answer.{Ran, Checked}
+
+pub one-answer-aps2-read : (reading : Reading) {r r′ : ℕ} {fields fields′ : List ℕ} → Read reading r fields → Read reading r′ fields′ → (r ≡ r′) × (fields ≡ fields′)
+one-answer-aps2-read reading p q = (p .number ∙ sym (q .number), p .fields ∙ sym (q .fields))
+
+pub one-answer-aps2-write : (written : Written) {r r′ : ℕ} {word word′ : List ℕ} → Wrote written r word → Wrote written r′ word′ → (r ≡ r′) × (word ≡ word′)
+one-answer-aps2-write written p q = (p .number ∙ sym (q .number), p .word ∙ sym (q .word))
+
+pub one-answer-aps2-run : (d : Did) (before : List ℕ) {r r′ : ℕ} {after after′ answer answer′ : List ℕ} → Ran d before after answer r → Ran d before after′ answer′ r′
+    → (r ≡ r′) × (answer ≡ answer′) × (after ≡ after′)
+one-answer-aps2-run d before p q = (p .number ∙ sym (q .number), p .answer ∙ sym (q .answer), p .trace .trace ∙ sym (q .trace .trace))
+
+pub one-answer-aps2-check : (wave : ℕ) (words before : List ℕ) {r r′ : ℕ} {after after′ place place′ : List ℕ} → Checked wave words before after place r → Checked wave words before after′ place′ r′
+    → (r ≡ r′) × (place ≡ place′) × (after ≡ after′)
+one-answer-aps2-check wave words before p q =
+    let o = one-answer-check wave words before (p .verdict) (q .verdict) in (
+      ap (λ (v : Verdict). v .refusal .number) (o .0),
+      p .place ∙ ap (λ (v : Verdict). v .place ∷ []) (o .0) ∙ sym (q .place),
+      o .1,
+    )

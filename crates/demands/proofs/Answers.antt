@@ -1,0 +1,47 @@
+-- `one-answer-..`, for each public function: its contract leaves one answer, and one content of what is lent to it.
+-- Assumes nothing.
+use mathlib.Core.Path.{sym, _∙_}
+use Rattle.verdict.proofs.Unique as unique
+use Rattle.demands.specs.Answers.{OneEqual, OneRead, OneWrite, OneRun, OneCheck, OneStep, OneDispatch, OneWalk, OneJudge}
+
+pub one-answer-equation : OneEqual
+one-answer-equation A d r r′ p q = p ∙ sym q
+
+pub one-answer-read : OneRead
+one-answer-read word r r′ p q = p ∙ sym q
+
+pub one-answer-write : OneWrite
+one-answer-write i r r′ p q = p ∙ sym q
+
+pub one-answer-run : OneRun
+one-answer-run budget e before r r′ p q =
+    let a = p .answer ∙ sym (q .answer) in
+    let t = p .trace ∙ sym (q .trace) in
+    λ i. (a i, t i)
+
+pub one-answer-check : OneCheck
+one-answer-check wave words marks r r′ p q =
+    let o = unique.one-answer-check wave words marks p q in
+    λ i. (o .0 i, o .1 i)
+
+pub one-answer-step : OneStep
+one-answer-step e s before r r′ p q =
+    let end = p .done .end ∙ sym (q .done .end) in
+    let state = p .done .state ∙ sym (q .done .state) in
+    let trace = p .trace ∙ sym (q .trace) in
+    λ i. (record { end = end i; core = state i .core }, trace i, state i .returns, state i .counters, state i .waits, state i .totals)
+
+pub one-answer-dispatch : OneDispatch
+one-answer-dispatch out k trace waits totals r r′ p q =
+    let t = p .trace ∙ sym (q .trace) in
+    let w = p .waits ∙ sym (q .waits) in
+    let n = p .totals ∙ sym (q .totals) in
+    λ i. (t i, w i, n i)
+
+pub one-answer-walk : OneWalk
+one-answer-walk limit words marks r r′ p q = unique.one-marks limit words marks r r′ (p .long ∙ sym (q .long)) (p .exact) (q .exact) (p .tail) (q .tail)
+
+pub one-answer-judge : OneJudge
+one-answer-judge limit words r r′ p q =
+    let o = unique.one-flow limit words p q in
+    λ i. (o .0 i, o .1 i)

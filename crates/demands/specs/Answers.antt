@@ -1,0 +1,61 @@
+-- "that contract leaves one possible answer and one content of marks and trace" (document 01, "What the contracts settle"), for each public function.
+-- Each statement is about the contract as the function's source has it; C's four are in aps2_c.
+use mathlib.Core.Path.{_≡_}
+use mathlib.Core.List.{List}
+use Prim.Native.Nat.{ℕ}
+use Rattle.instruction.specs.declared.Instruction.{Instruction}
+use Rattle.reader.specs.Reading.{readingOf}
+use Rattle.reader.specs.declared.Reading.{Reading}
+use Rattle.writer.specs.Writing.{writtenOf}
+use Rattle.writer.specs.declared.Written.{Written}
+use Rattle.dispatch.specs.Trace.{Dispatched}
+use Rattle.machine.specs.State.{Fixed, Traced}
+use Rattle.machine.specs.Step.{stepOf}
+use Rattle.machine.specs.declared.State.{State}
+use Rattle.machine.specs.declared.Stepped.{Stepped}
+use Rattle.rehearsal.specs.Run.{rehearse, Rehearsed}
+use Rattle.rehearsal.specs.declared.Answer.{Answer}
+use Rattle.walk.specs.Marks.{Marked}
+use Rattle.verdict.specs.Flow.{FlowIs}
+use Rattle.verdict.specs.Check.{CheckIs}
+use Rattle.verdict.specs.declared.Verdict.{Verdict}
+
+-- two answers that meet a contract are equal
+abbrev pub One : (A : Type 0) → (A → Type 0) → Type 0
+One A Meets = (r r′ : A) → Meets r → Meets r′ → r ≡ r′
+
+-- a contract that is an equation, as those of `read`, `write` and of each function that only computes a number
+abbrev pub OneEqual : Type 1
+OneEqual = (A : Type 0) (definition : A) → One A (λ r. r ≡ definition)
+
+abbrev pub OneRead : Type 0
+OneRead = (word : ℕ) → One Reading (λ r. r ≡ readingOf word)
+
+abbrev pub OneWrite : Type 0
+OneWrite = (i : Instruction) → One Written (λ r. r ≡ writtenOf i)
+
+-- the answer, and the trace
+abbrev pub OneRun : Type 0
+OneRun = (budget : ℕ) (e : Fixed) (before : List ℕ) → One (Answer × List ℕ) (λ r. Rehearsed (rehearse budget e) before (r .1) (r .0))
+
+-- the verdict, and the marks
+abbrev pub OneCheck : Type 0
+OneCheck = (wave : ℕ) (words marks : List ℕ) → One (Verdict × List ℕ) (λ r. CheckIs wave words marks (r .0) (r .1))
+
+-- what other crates of ours call: the step, with the arrays and the trace lent to it
+abbrev pub OneStep : Type 0
+OneStep =
+    (e : Fixed) (s : State) (before : List ℕ)
+    → One (Stepped × List ℕ × List ℕ × List ℕ × List ℕ × List ℕ) (λ r. Traced (stepOf e s) (s .core .sent) before (r .1) (r .0) (r .2) (r .3) (r .4) (r .5))
+
+-- the dispatcher, with the trace, the waits and the totals
+abbrev pub OneDispatch : Type 0
+OneDispatch = (out : List ℕ) (k : ℕ) (trace waits totals : List ℕ) → One (List ℕ × List ℕ × List ℕ) (λ r. Dispatched out k trace waits totals (r .0) (r .1) (r .2))
+
+-- the walk's marks
+abbrev pub OneWalk : Type 0
+OneWalk = (limit : ℕ) (words marks : List ℕ) → One (List ℕ) (λ r. Marked limit words marks r)
+
+-- the verdict on flow
+abbrev pub OneJudge : Type 0
+OneJudge = (limit : ℕ) (words : List ℕ) → One (ℕ × ℕ) (λ r. FlowIs limit words (r .0) (r .1))
