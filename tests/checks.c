@@ -1,4 +1,4 @@
-/* Checks, compared with the second program: the number, its place, and every mark, the tail included. Random sequences, all small ones,
+/* Checks, compared with the second program: the number, its place, and every mark, the tail included. The document's cases, random sequences, all small ones,
    groups, nests to the stack's end, and the bounds of every input. A sequence that is accepted is then run, and must not fault. */
 #include "../include/aps2.h"
 #include "../second/second.h"
@@ -45,6 +45,44 @@ static void try_accepted(size_t n, uint64_t wave)
             printf("  accepted, and a run ended with %llu\n", (unsigned long long)end);
         }
     }
+}
+
+/* The document's own cases, each with the number and the place that it tells. */
+struct worked {
+    size_t n;
+    uint64_t wave, number, place, words[8];
+};
+
+static const struct worked cases[] = {
+    { 4, 5, 0, 0, { 0x9100800000000000, 0x2100400000000000, 0x0100000004000001, 0x6000000000000000 } },
+    { 4, 4, 20, 2, { 0x9100800000000000, 0x2100400000000000, 0x0100000004000001, 0x6000000000000000 } },
+    { 1, 0, 32, 0, { 0x8000000000000000 } },
+    { 1, 0, 30, 1, { 0xFFFFFFFFFFFFFFFF } },
+    { 1, 0, 31, 0, { 0x7000000000000000 } },
+    { 3, 0, 0, 0, { 0x7000000000000002, 0x6000000000000001, 0x8000000000000000 } },
+    { 2, 0, 30, 2, { 0x5000000000000000, 0x6000000000000000 } },
+    { 1, 0, 12, 0, { 0x2100000000000000 } },
+    { 2, 9, 16, 0, { 0x0100000001000000, 0x6000000000000000 } },
+    { 2, 9, 0, 0, { 0x0100000002000000, 0x6000000000000000 } },
+    { 1, 0, 10, 0, { 0xFFFFFFFFFFFFFFFE } },
+    { 8, 9, 22, 0, { 0x0000000002000000, 0x0000000002000000, 0x0000000002000000, 0x0000000002000000,
+                     0x0000000002000000, 0x0000000002000000, 0x0000000002000000, 0x0000000002000000 } },
+};
+
+static void worked(void)
+{
+    for (size_t k = 0; k < sizeof cases / sizeof *cases; k++) {
+        const struct worked *c = &cases[k];
+        uint64_t place[1] = { 99 };
+        for (size_t i = 0; i < c->n; i++)
+            words[i] = c->words[i];
+        try_check(c->n, c->wave, c->n);
+        if ((aps2_check(words, c->n, c->wave, ours, c->n, place) != c->number || place[0] != c->place) && !failed)
+            failed = 1, printf("  case %llu is not as told\n", (unsigned long long)k);
+    }
+    if (try_check(65537, 0, 65537) != 2)
+        failed = 1;
+    family("check: the cases of document 01");
 }
 
 static void random_checks(void)
@@ -170,6 +208,7 @@ static void bounds(void)
 
 int main(void)
 {
+    worked();
     random_checks();
     small_checks();
     groups();
