@@ -5,11 +5,9 @@ use mathlib.Core.Path.{_≡_, refl, sym}
 use mathlib.Core.List.{List, [], _∷_, _++_, append-assoc, append-nil}
 use native.Mathlib.Omega.{arith}
 use native.Mathlib.Numerals.{add-one}
-use native.Mathlib.Nat.{add-zero}
-use lib.ListN.{length, getD, set, take, drop, length-drop, length-map, drop-of-length-le, take-append-drop}
-use lib.Seq.{take-suc, drop-cons, set-at, getD-at, drop-drop, length-take-le, take-all}
+use lib.ListN.{length, getD, set, take, drop, length-map, drop-of-length-le}
+use lib.Seq.{take-suc, drop-cons, set-at, getD-at, length-take-le, take-all}
 use Rattle.dispatch.specs.Engines.{AllLe, plusOne}
-use Rattle.dispatch.specs.Trace.{put}
 
 -- ---- written from the front
 
@@ -42,19 +40,6 @@ pub plus-end : (d : List ℕ) (i : ℕ) → length d ≡ i → take i (plusOne d
 plus-end d i h =
     let m : length d ≤ i = omega arith in
     rw (take-all i (plusOne d) (omega (arith, plus-length d)), drop-of-length-le d m) (append-nil (plusOne d))
-
--- ---- the trace
-
--- nothing written
-pub put-none : (t : List ℕ) (k : ℕ) → put t k [] ≡ t
-put-none t k = rw add-zero (take-append-drop k t)
-
--- what a part was left with, said of the whole
-pub put-part : (t xs : List ℕ) (k n : ℕ) → k ≤ length t → length xs ≡ n
-    → take k t ++ ((xs ++ drop n (take (length t - k) (drop k t))) ++ drop (length t - k) (drop k t)) ≡ put t k xs
-put-part t xs k n h e =
-    let m : length (drop k t) ≤ length t - k = rw length-drop (omega arith) in
-    rw (drop-of-length-le (drop k t) m, take-all (length t - k) (drop k t) m, append-nil, drop-drop n k t, e)
 
 -- ---- lists of small numbers
 

@@ -2,14 +2,11 @@
 -- "each group into the part of the lent trace that starts after the last dispatched word"
 use Prim.Native.Nat.{ℕ, _+_, _^_, _≤_}
 use mathlib.Core.Path.{_≡_}
-use mathlib.Core.List.{List, _++_}
+use mathlib.Core.List.{List}
 use lib.ListN.{length, take, drop}
+use Rattle.buffer.specs.Put.{put}
 use Rattle.sequence.specs.Bounds.{groupSize}
 use Rattle.dispatch.specs.Engines.{waitsOver, totalsOver, Counted}
-
--- a buffer with words written from place k on
-abbrev pub put : List ℕ → ℕ → List ℕ → List ℕ
-put buffer k words = take k buffer ++ (words ++ drop (k + length words) buffer)
 
 -- n words of a sequence, from an address on
 abbrev pub part : ℕ → ℕ → List ℕ → List ℕ

@@ -14,8 +14,8 @@ use Rattle.instruction.specs.declared.Instruction.{Instruction}
 use Rattle.reader.specs.Reading.{readingOf}
 use Rattle.reader.specs.declared.Reading.the-variants.{Accepted, Refused}
 use Rattle.sequence.specs.Placing.{placingOf}
-use Rattle.dispatch.specs.Trace.{put}
-use Rattle.dispatch.proofs.Lists.{put-none}
+use Rattle.buffer.specs.Put.{put}
+use Rattle.buffer.proofs.Laws.{put-none}
 use Rattle.dispatch.proofs.Counts.{picks, counted-more}
 use Rattle.instruction.specs.Form.{numbered}
 use Rattle.machine.specs.State.{Fixed, Did, stateOf, withMessage, withCore, refusedBy, stop, moves, stopped, Done, Traced}

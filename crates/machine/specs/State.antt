@@ -8,7 +8,7 @@ use Rattle.instruction.specs.Form.{numbered}
 use Rattle.instruction.specs.declared.Refusal.{Refusal}
 use Rattle.sequence.specs.Bounds.{stackDepth}
 use Rattle.dispatch.specs.Engines.{engineCount}
-use Rattle.dispatch.specs.Trace.{put}
+use Rattle.buffer.specs.Put.{put}
 use Rattle.machine.specs.declared.Condition.{Condition}
 use Rattle.machine.specs.declared.Condition.the-variants.{Absent}
 use Rattle.machine.specs.declared.Core.{Core}

@@ -4,18 +4,17 @@ use Prim.Native.Nat.{ℕ, zero, suc, _+_, _-_, _≤_, _<_}
 use mathlib.Core.Path.{_≡_, refl, ap, sym, _∙_, subst}
 use mathlib.Core.Bool.{Bool, true, false, not}
 use mathlib.Core.List.{List, [], _++_, append-assoc, append-nil}
-use native.Mathlib.Nat.{add-zero, add-assoc, zero-add}
+use native.Mathlib.Nat.{add-zero}
 use native.Mathlib.Numerals.{sub-one}
 use native.Mathlib.Omega.{arith}
 use borrow.Author.Tests.{eq-eqb, ne-eqb, eqb-true, eqb-false, lt-ltb, le-ltb, ltb-false}
 use lib.Dec.{ltb, eqb}
-use lib.ListN.{length, take, drop, length-append, length-take, length-drop}
-use lib.Seq.{take-append-seam, drop-append-add, drop-drop, length-take-le}
+use lib.ListN.{length, length-append}
 use Rattle.instruction.specs.Bits.{pick}
 use Rattle.instruction.specs.declared.Refusal.{Refusal}
 use Rattle.sequence.specs.Bounds.{budgetLimit, lengthsRefused}
-use Rattle.dispatch.specs.Trace.{put}
-use Rattle.dispatch.proofs.Lists.{put-none}
+use Rattle.buffer.specs.Put.{put}
+use Rattle.buffer.proofs.Laws.{put-none, length-put, put-put, put-front}
 use Rattle.machine.specs.State.{Fixed, fixedBy, Did, stateOf, fresh, stop, stopped, Traced}
 use Rattle.machine.specs.Step.{stepOf}
 use Rattle.machine.specs.Kept.{Good, Ready}
@@ -24,31 +23,6 @@ use Rattle.machine.specs.declared.State.{State}
 use Rattle.machine.specs.declared.Stepped.{Stepped}
 use Rattle.machine.proofs.Kept.{kept, fresh-good}
 use Rattle.rehearsal.specs.Run.{onto, thenDid, runOf, inputRefused, rehearse, Rehearsed, CanGo}
-
--- ---- the trace, written again and again
-
-length-put : (t xs : List ℕ) (k : ℕ) → k + length xs ≤ length t → length (put t k xs) ≡ length t
-length-put t xs k h = simp (length-append, length-take, length-drop) (omega arith)
-
-seam : (p q ys : List ℕ) (m n : ℕ) → length p ≡ n → take n (p ++ q) ++ (ys ++ drop (n + m) (p ++ q)) ≡ p ++ (ys ++ drop m q)
-seam p q ys m n h =
-    subst (λ (k : ℕ). take k (p ++ q) ++ (ys ++ drop (k + m) (p ++ q)) ≡ p ++ (ys ++ drop m q)) h
-    (rw (take-append-seam p q, drop-append-add p q m))
-
--- one write after the other
-put-put : (t xs ys : List ℕ) (k : ℕ) → k + length xs ≤ length t → put (put t k xs) (k + length xs) ys ≡ put t k (xs ++ ys)
-put-put t xs ys k h =
-    let p = take k t ++ xs in
-    let n = k + length xs in
-    let q = drop n t in
-    let l : length p ≡ n = simp (length-append, length-take-le k t (omega arith)) in
-    ap (λ (z : List ℕ). take n z ++ (ys ++ drop (n + length ys) z)) (sym (append-assoc (take k t) xs q))
-    ∙ seam p q ys (length ys) n l
-    ∙ simp (append-assoc, drop-drop, length-append, add-assoc)
-
--- from the front
-pub put-front : (t xs : List ℕ) → put t 0 xs ≡ xs ++ drop (length xs) t
-put-front t xs = rw zero-add
 
 -- ---- one step of a run
 

@@ -7,7 +7,7 @@ use native.Mathlib.Omega.{arith}
 use lib.ListN.{length, take, drop, length-drop}
 use lib.Seq.{length-take-le}
 use Rattle.dispatch.specs.Trace.{part}
-use Rattle.dispatch.proofs.Lists.{put-part}
+use Rattle.buffer.proofs.Laws.{put-part}
 use borrow.Author.Needs.{needs}
 use Rattle.dispatch.proofs.dispatch.Statement.{statement}
 use Rattle.dispatch.proofs.dispatch.Tie as tie
