@@ -86,3 +86,20 @@ put-before t xs j x h =
 
     up : (j n : ℕ) → j + 1 + n ≡ j + suc n
     up j n = omega arith
+
+-- ---- place by place, from the front
+
+-- the first i of them are written
+module _ (t xs : List ℕ) (k : ℕ) (h : Fits xs t k) where
+  pub so-far-length : (i : ℕ) → i ≤ length xs → length (put t k (take i xs)) ≡ length t
+  so-far-length i l = length-put t (take i xs) k (omega (arith, h, length-take-le i xs l))
+
+  pub so-far-next : (i : ℕ) → i < length xs → set (put t k (take i xs)) (k + i) (getD xs i 0) ≡ put t k (take (i + 1) xs)
+  so-far-next i l =
+      let e : length (take i xs) ≡ i = length-take-le i xs (omega arith) in
+      ap (λ (n : ℕ). set (put t k (take i xs)) (k + n) (getD xs i 0)) (sym e)
+      ∙ put-more t (take i xs) k (getD xs i 0) (omega arith)
+      ∙ ap (λ (l : List ℕ). put t k l) (sym (take-suc xs i 0 l) ∙ ap (λ (n : ℕ). take n xs) (sym (add-one i)))
+
+  pub so-far-all : (i : ℕ) → i ≤ length xs → length xs ≤ i → put t k (take i xs) ≡ put t k xs
+  so-far-all i l m = ap (λ (l : List ℕ). put t k l) (take-all i xs m)

@@ -1,0 +1,111 @@
+-- The listing of raw words. Document 01, "The listing program".
+-- "It reads raw words .., eight bytes each, most significant first, at most 2,048."
+use Prim.Native.Nat.{ℕ, zero, suc, _+_, _*_, _/_, _%_}
+use Prim.Native.String.{String}
+use mathlib.Core.Path.{_≡_}
+use mathlib.Core.Bool.{Bool, not, _||_}
+use mathlib.Core.List.{List, [], _∷_, _++_, map}
+use lib.Dec.{ltb, eqb, leb}
+use lib.ListN.{length, getD, drop}
+use Rattle.instruction.specs.Bits.{pick}
+use Rattle.instruction.specs.Table.{codeOf, isNoop, isIgnored, valuesOf}
+use Rattle.instruction.specs.declared.Instruction.{Instruction}
+use Rattle.instruction.specs.declared.Body.{Body}
+use Rattle.instruction.specs.declared.Body.the-variants.{Waveform, Marker, Wait, LoadRepeat, Repeat, Cmp, Goto, Call, Return, Sync, Modulator, LoadCmp, Prefetch, Noop}
+use Rattle.reader.specs.Reading.{readingOf}
+use Rattle.reader.specs.declared.Reading.{Reading}
+use Rattle.reader.specs.declared.Reading.the-variants.{Accepted, Refused}
+use Rattle.listing.specs.Text.{Entry, name, number, Line, textOf}
+
+-- ---- words
+
+abbrev pub wordBytes : ℕ
+wordBytes = 8
+
+abbrev pub byteSpan : ℕ
+byteSpan = 256
+
+-- "most significant first": the number that k bytes make, from a place on
+abbrev pub bigEndian : List ℕ → ℕ → ℕ → ℕ
+bigEndian bytes from zero = 0
+bigEndian bytes from (suc k) = bigEndian bytes from k * byteSpan + getD bytes (from + k) 0
+
+abbrev pub wordAt : List ℕ → ℕ → ℕ
+wordAt bytes a = bigEndian bytes (a * wordBytes) wordBytes
+
+-- ---- lines
+
+abbrev pub nameOf : Body → String
+nameOf (Waveform f) = "WAVEFORM"
+nameOf (Marker f) = "MARKER"
+nameOf Wait = "WAIT"
+nameOf (LoadRepeat n) = "LOAD_REPEAT"
+nameOf (Repeat a) = "REPEAT"
+nameOf (Cmp x) = "CMP"
+nameOf (Goto a) = "GOTO"
+nameOf (Call a) = "CALL"
+nameOf (Return p) = "RETURN"
+nameOf Sync = "SYNC"
+nameOf (Modulator f) = "MODULATOR"
+nameOf (LoadCmp p) = "LOAD_CMP"
+nameOf (Prefetch a) = "PREFETCH"
+nameOf Noop = "NOOP"
+
+-- "the table's fields left to right .. (WAIT, SYNC, RETURN, LOAD_CMP show none ..)"
+abbrev pub showsNone : Body → Bool
+showsNone b = eqb (codeOf b) (codeOf Wait) || eqb (codeOf b) (codeOf Sync) || isIgnored (codeOf b)
+
+abbrev pub shownOf : Body → List ℕ
+shownOf b = pick (showsNone b) [] (valuesOf b)
+
+-- "address, name, engine select, write flag, and the table's fields"; "NOOP only address and name"
+abbrev pub entriesOf : Instruction → List Entry
+entriesOf i = name (nameOf (i .body)) ∷ pick (isNoop (i .body)) [] (number (i .engine) ∷ number (i .write) ∷ map number (shownOf (i .body)))
+
+-- "A word that fails form prints address, `BAD`, number."
+abbrev pub entriesIn : Reading → List Entry
+entriesIn (Accepted i) = entriesOf i
+entriesIn (Refused r) = name "BAD" ∷ number (r .number) ∷ []
+
+abbrev pub lineAt : List ℕ → ℕ → Line
+lineAt bytes a = record { first = number a; rest = entriesIn (readingOf (wordAt bytes a)) }
+
+-- the lines of n words, from an address on
+abbrev pub linesFrom : List ℕ → ℕ → ℕ → List Line
+linesFrom bytes a zero = []
+linesFrom bytes a (suc n) = lineAt bytes a ∷ linesFrom bytes (a + 1) n
+
+-- ---- the listing
+
+-- "at most 2,048"
+abbrev pub listedWords : ℕ
+listedWords = 2048
+
+-- "`aps2-listing`, tab, `1`"
+abbrev pub header : Line
+header = record { first = name "aps2-listing"; rest = number 1 ∷ [] }
+
+-- "`refused`, tab, `8`"
+abbrev pub refused : ℕ → Line
+refused n = record { first = name "refused"; rest = number n ∷ [] }
+
+-- "A byte count not divisible by 8 prints only .. 8; more than 2,048 words only .. 9; 8 first. An empty input prints the header line."
+abbrev pub linesOf : List ℕ → List Line
+linesOf bytes =
+    pick (not (eqb (length bytes % wordBytes) 0)) (refused 8 ∷ [])
+    (pick (ltb listedWords (length bytes / wordBytes)) (refused 9 ∷ [])
+    (header ∷ linesFrom bytes 0 (length bytes / wordBytes)))
+
+unfoldable pub listingOf : List ℕ → List ℕ
+listingOf bytes = textOf (linesOf bytes)
+
+-- what `list` answers, and what it leaves in the buffer: the listing where it fits, and else what was there
+pub record Listed (text before after : List ℕ) (r : ℕ) : Type 0 where
+  pub size : r ≡ length text
+  pub out : after ≡ pick (leb (length text) (length before)) (text ++ drop (length text) before) before
+
+-- ---- what the functions ask
+
+-- the longest listing
+abbrev pub pageSize : ℕ
+pageSize = 196704

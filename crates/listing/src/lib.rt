@@ -1,0 +1,268 @@
+// The listing of raw words, as text: laid out on a page that has room for the longest one, and then handed over whole or not at all.
+// Each function that writes takes the place to write from and answers with the place behind what it wrote.
+ghost use mathlib.Core.Path.{_≡_};
+ghost use mathlib.Core.List.{[], _∷_, _++_, map};
+ghost use Prim.Native.Nat.{_≤_, _<_, _+_, _*_, _%_};
+ghost use lib.ListN.{length, take, drop};
+ghost use Rattle.buffer.specs.Put.{Fits, Put};
+ghost use Rattle.reader.specs.Reading.{readingOf};
+ghost use Rattle.listing.specs.Text.{Entry, name, number, letters, digit, decimal, tab, lineFeed, restText, lineText, textOf};
+ghost use Rattle.listing.specs.Listing.{wordBytes, byteSpan, wordAt, nameOf, shownOf, entriesOf, entriesIn, linesFrom, listingOf, pageSize, Listed};
+use instruction::Body;
+use instruction::Instruction;
+use reader::Reading;
+use reader::read;
+
+pub struct Listing;
+
+impl Listing {
+    pub const WORDS: usize = 2048;
+
+    pub const WORD_BYTES: usize = 8;
+
+    pub const BYTE_SPAN: u64 = 256;
+
+    // What the header line says of the listing's form.
+    pub const EDITION: u64 = 1;
+
+    // The bytes are no whole number of words.
+    pub const NOT_WHOLE: u64 = 8;
+
+    pub const TOO_MANY: u64 = 9;
+
+    // Room for the longest listing: no line is longer than 96 bytes.
+    pub const PAGE: usize = 196704;
+}
+
+fn digit_count(n: u64) -> usize
+    ensures { λ r. ⌜ r ≡ length (decimal n) ⌝ }
+{
+    let mut rest = n;
+    let mut count: usize = 1;
+    while 10 <= rest {
+        rest = rest / 10;
+        count += 1;
+    }
+    count
+}
+
+fn last_digit(n: u64) -> u8
+    ensures { λ r. ⌜ r ≡ digit (n % 10) ⌝ }
+{
+    let d = n % 10;
+    b'0' + d as u8
+}
+
+// A number in decimal, from its last digit to its first.
+fn put_number(page: &mut [u8], at: usize, n: u64) -> usize
+    requires { ⌜ Fits (decimal n) (now page) at ⌝ }
+    ensures { λ r. ⌜ Put (decimal n) (now (page .entry)) at (now (page .exit)) r ⌝ }
+{
+    let end = at + digit_count(n);
+    let mut i = end - 1;
+    let mut rest = n;
+    while 10 <= rest {
+        page[i] = last_digit(rest);
+        rest = rest / 10;
+        i -= 1;
+    }
+    page[i] = last_digit(rest);
+    end
+}
+
+fn put_byte(page: &mut [u8], at: usize, b: u8) -> usize
+    requires { ⌜ Fits (b ∷ []) (now page) at ⌝ }
+    ensures { λ r. ⌜ Put (b ∷ []) (now (page .entry)) at (now (page .exit)) r ⌝ }
+{
+    page[at] = b;
+    at + 1
+}
+
+fn put_text(page: &mut [u8], at: usize, text: &[u8]) -> usize
+    requires { ⌜ Fits (now text) (now page) at ⌝ }
+    ensures { λ r. ⌜ Put (now (text .entry)) (now (page .entry)) at (now (page .exit)) r ⌝ }
+{
+    let mut i: usize = 0;
+    while i < text.len() {
+        page[at + i] = text[i];
+        i += 1;
+    }
+    at + i
+}
+
+fn put_end(page: &mut [u8], at: usize) -> usize
+    requires { ⌜ Fits (restText []) (now page) at ⌝ }
+    ensures { λ r. ⌜ Put (restText []) (now (page .entry)) at (now (page .exit)) r ⌝ }
+{
+    put_byte(page, at, b'\n')
+}
+
+// A name, after a tab.
+fn put_word(page: &mut [u8], at: usize, text: &[u8]) -> usize
+    requires { ⌜ Fits (tab ∷ now text) (now page) at ⌝ }
+    ensures { λ r. ⌜ Put (tab ∷ now (text .entry)) (now (page .entry)) at (now (page .exit)) r ⌝ }
+{
+    let from = put_byte(page, at, b'\t');
+    put_text(page, from, text)
+}
+
+// A number, after a tab.
+fn put_value(page: &mut [u8], at: usize, n: u64) -> usize
+    requires { ⌜ Fits (tab ∷ decimal n) (now page) at ⌝ }
+    ensures { λ r. ⌜ Put (tab ∷ decimal n) (now (page .entry)) at (now (page .exit)) r ⌝ }
+{
+    let from = put_byte(page, at, b'\t');
+    put_number(page, from, n)
+}
+
+// The last numbers of a line, one to four of them.
+fn put_one(page: &mut [u8], at: usize, a: u64) -> usize
+    requires { ⌜ Fits (restText (number a ∷ [])) (now page) at ⌝ }
+    ensures { λ r. ⌜ Put (restText (number a ∷ [])) (now (page .entry)) at (now (page .exit)) r ⌝ }
+{
+    let end = put_value(page, at, a);
+    put_end(page, end)
+}
+
+fn put_two(page: &mut [u8], at: usize, a: u64, b: u64) -> usize
+    requires { ⌜ Fits (restText (number a ∷ number b ∷ [])) (now page) at ⌝ }
+    ensures { λ r. ⌜ Put (restText (number a ∷ number b ∷ [])) (now (page .entry)) at (now (page .exit)) r ⌝ }
+{
+    let end = put_value(page, at, a);
+    put_one(page, end, b)
+}
+
+fn put_three(page: &mut [u8], at: usize, a: u64, b: u64, c: u64) -> usize
+    requires { ⌜ Fits (restText (number a ∷ number b ∷ number c ∷ [])) (now page) at ⌝ }
+    ensures { λ r. ⌜ Put (restText (number a ∷ number b ∷ number c ∷ [])) (now (page .entry)) at (now (page .exit)) r ⌝ }
+{
+    let end = put_value(page, at, a);
+    put_two(page, end, b, c)
+}
+
+fn put_four(page: &mut [u8], at: usize, a: u64, b: u64, c: u64, d: u64) -> usize
+    requires { ⌜ Fits (restText (number a ∷ number b ∷ number c ∷ number d ∷ [])) (now page) at ⌝ }
+    ensures { λ r. ⌜ Put (restText (number a ∷ number b ∷ number c ∷ number d ∷ [])) (now (page .entry)) at (now (page .exit)) r ⌝ }
+{
+    let end = put_value(page, at, a);
+    put_three(page, end, b, c, d)
+}
+
+fn put_name(page: &mut [u8], at: usize, body: Body) -> usize
+    requires { ⌜ Fits (tab ∷ letters (nameOf body)) (now page) at ⌝ }
+    ensures { λ r. ⌜ Put (tab ∷ letters (nameOf body)) (now (page .entry)) at (now (page .exit)) r ⌝ }
+{
+    match body {
+        Body::Waveform(_) => put_word(page, at, b"WAVEFORM"),
+        Body::Marker(_) => put_word(page, at, b"MARKER"),
+        Body::Wait => put_word(page, at, b"WAIT"),
+        Body::LoadRepeat(_) => put_word(page, at, b"LOAD_REPEAT"),
+        Body::Repeat(_) => put_word(page, at, b"REPEAT"),
+        Body::Cmp(_) => put_word(page, at, b"CMP"),
+        Body::Goto(_) => put_word(page, at, b"GOTO"),
+        Body::Call(_) => put_word(page, at, b"CALL"),
+        Body::Return(_) => put_word(page, at, b"RETURN"),
+        Body::Sync => put_word(page, at, b"SYNC"),
+        Body::Modulator(_) => put_word(page, at, b"MODULATOR"),
+        Body::LoadCmp(_) => put_word(page, at, b"LOAD_CMP"),
+        Body::Prefetch(_) => put_word(page, at, b"PREFETCH"),
+        Body::Noop => put_word(page, at, b"NOOP"),
+    }
+}
+
+// The table's fields, and the end of the line.
+fn put_fields(page: &mut [u8], at: usize, body: Body) -> usize
+    requires { ⌜ Fits (restText (map number (shownOf body))) (now page) at ⌝ }
+    ensures { λ r. ⌜ Put (restText (map number (shownOf body))) (now (page .entry)) at (now (page .exit)) r ⌝ }
+{
+    match body {
+        Body::Waveform(f) => put_four(page, at, f.op, f.ta, f.count.0, f.address.0),
+        Body::Marker(f) => put_four(page, at, f.op, f.transition, f.state, f.count.0),
+        Body::Wait => put_end(page, at),
+        Body::LoadRepeat(n) => put_one(page, at, n.0),
+        Body::Repeat(a) => put_one(page, at, a.0),
+        Body::Cmp(x) => put_two(page, at, x.code, x.mask),
+        Body::Goto(a) => put_one(page, at, a.0),
+        Body::Call(a) => put_one(page, at, a.0),
+        Body::Return(_) => put_end(page, at),
+        Body::Sync => put_end(page, at),
+        Body::Modulator(f) => put_three(page, at, f.op, f.nco, f.payload),
+        Body::LoadCmp(_) => put_end(page, at),
+        Body::Prefetch(a) => put_one(page, at, a.0),
+        Body::Noop => put_end(page, at),
+    }
+}
+
+// What follows the address of a word that reads as an instruction.
+fn put_instruction(page: &mut [u8], at: usize, i: Instruction) -> usize
+    requires { ⌜ Fits (restText (entriesOf i)) (now page) at ⌝ }
+    ensures { λ r. ⌜ Put (restText (entriesOf i)) (now (page .entry)) at (now (page .exit)) r ⌝ }
+{
+    let body = i.body;
+    let named = put_name(page, at, body);
+    if body.code() == Body::NOOP {
+        return put_end(page, named);
+    }
+    let select = put_value(page, named, i.engine);
+    let flag = put_value(page, select, i.write);
+    put_fields(page, flag, body)
+}
+
+// What follows the address of a word that fails form.
+fn put_bad(page: &mut [u8], at: usize, refusal: u64) -> usize
+    requires { ⌜ Fits (restText (name "BAD" ∷ number refusal ∷ [])) (now page) at ⌝ }
+    ensures { λ r. ⌜ Put (restText (name "BAD" ∷ number refusal ∷ [])) (now (page .entry)) at (now (page .exit)) r ⌝ }
+{
+    let named = put_word(page, at, b"BAD");
+    put_one(page, named, refusal)
+}
+
+fn put_reading(page: &mut [u8], at: usize, reading: Reading) -> usize
+    requires { ⌜ Fits (restText (entriesIn reading)) (now page) at ⌝ }
+    ensures { λ r. ⌜ Put (restText (entriesIn reading)) (now (page .entry)) at (now (page .exit)) r ⌝ }
+{
+    match reading {
+        Reading::Accepted(i) => put_instruction(page, at, i),
+        Reading::Refused(r) => put_bad(page, at, r.number),
+    }
+}
+
+// The line of a word at an address.
+fn put_line(page: &mut [u8], at: usize, address: u64, word: u64) -> usize
+    requires { ⌜ Fits (lineText (number address) (entriesIn (readingOf word))) (now page) at ⌝ }
+    ensures { λ r. ⌜ Put (lineText (number address) (entriesIn (readingOf word))) (now (page .entry)) at (now (page .exit)) r ⌝ }
+{
+    let reading = read(word);
+    let told = put_number(page, at, address);
+    put_reading(page, told, reading)
+}
+
+// A line of a name and a number.
+fn put_pair(page: &mut [u8], text: &[u8], n: u64) -> usize
+    requires { ⌜ Fits (now text ++ restText (number n ∷ [])) (now page) 0 ⌝ }
+    ensures { λ r. ⌜ Put (now (text .entry) ++ restText (number n ∷ [])) (now (page .entry)) 0 (now (page .exit)) r ⌝ }
+{
+    let end = put_text(page, 0, text);
+    put_one(page, end, n)
+}
+
+fn wide(x: u8) -> u64
+    ensures { λ r. ⌜ (r ≡ x) × (r < byteSpan) ⌝ }
+{
+    x as u64
+}
+
+// The word at an address, most significant byte first.
+fn word_at(bytes: &[u8], a: usize) -> u64
+    requires { ⌜ (a + 1) * wordBytes ≤ length (now bytes) ⌝ }
+    ensures { λ r. ⌜ r ≡ wordAt (now (bytes .entry)) a ⌝ }
+{
+    let from = a * Listing::WORD_BYTES;
+    let mut word: u64 = 0;
+    let mut k: usize = 0;
+    while k < Listing::WORD_BYTES {
+        word = word * Listing::BYTE_SPAN + wide(bytes[from + k]);
+        k += 1;
+    }
+    word
+}
