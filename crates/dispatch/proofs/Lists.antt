@@ -1,25 +1,15 @@
 -- Laws of lists that are written place by place, and of lists whose numbers are all small.
 -- Assumes nothing.
 use Prim.Native.Nat.{ℕ, zero, suc, _+_, _-_, _≤_, _<_}
-use mathlib.Core.Path.{_≡_, refl, sym}
-use mathlib.Core.List.{List, [], _∷_, _++_, append-assoc, append-nil}
+use mathlib.Core.Path.{_≡_, refl}
+use mathlib.Core.List.{List, [], _∷_, _++_, append-nil}
 use native.Mathlib.Omega.{arith}
-use native.Mathlib.Numerals.{add-one}
 use lib.ListN.{length, getD, set, take, drop, length-map, drop-of-length-le}
-use lib.Seq.{take-suc, drop-cons, set-at, getD-at, length-take-le, take-all}
+use lib.Seq.{take-all}
+use Rattle.buffer.proofs.Laws.{fill-next, fill-at}
 use Rattle.dispatch.specs.Engines.{AllLe, plusOne}
 
--- ---- written from the front
-
--- a list whose first i elements are those of xs: the next one written
-pub fill-next : (xs d : List ℕ) (i : ℕ) → i < length xs → i < length d
-    → set (take i xs ++ drop i d) i (getD xs i 0) ≡ take (i + 1) xs ++ drop (i + 1) d
-fill-next xs d i hx hd =
-    rw (drop-cons d i 0, set-at (take i xs) (getD d i 0) (drop (suc i) d) (getD xs i 0) i (length-take-le i xs (omega arith)), add-one, take-suc xs i 0)
-    (sym (append-assoc (take i xs) (getD xs i 0 ∷ []) (drop (suc i) d)))
-
-pub fill-at : (xs d : List ℕ) (i : ℕ) → i ≤ length xs → i < length d → getD (take i xs ++ drop i d) i 0 ≡ getD d i 0
-fill-at xs d i hx hd = rw (drop-cons d i 0) (getD-at (take i xs) (getD d i 0) (drop (suc i) d) 0 i (length-take-le i xs hx))
+-- ---- one more in each place
 
 plus-length : (d : List ℕ) → length (plusOne d) ≡ length d
 plus-length d = length-map d (λ (x : ℕ). x + 1)

@@ -1,16 +1,13 @@
 -- Laws of decimal numbers: a digit, or the digits of a tenth and one more; and how many there can be.
 -- Assumes nothing.
 use Prim.Native.Nat.{ℕ, zero, suc, _+_, _*_, _/_, _%_, _^_, _-_, _≤_, _<_}
-use mathlib.Core.Path.{_≡_, refl, ap, sym, subst, _∙_}
-use mathlib.Core.Bool.{Bool, true, false}
+use mathlib.Core.Path.{_≡_, ap, sym, subst, _∙_}
 use mathlib.Core.List.{List, [], _∷_, _++_, append-assoc, append-nil}
 use native.Mathlib.Nat.{pow-suc}
 use native.Mathlib.Omega.{arith}
 use native.Mathlib.Decide.{decLt}
 use borrow.Author.Tests.{lt-ltb, le-ltb}
-use lib.Dec.{ltb}
 use lib.ListN.{length, set, length-append}
-use Rattle.instruction.specs.Bits.{pick}
 use Rattle.buffer.specs.Put.{put, Fits, Put}
 use Rattle.buffer.proofs.Laws.{put-none, length-put, put-before}
 use Rattle.listing.specs.Text.{digit, digitsIn, decimal}

@@ -106,6 +106,10 @@ pub record Listed (text before after : List ℕ) (r : ℕ) : Type 0 where
 
 -- ---- what the functions ask
 
--- the longest listing
+-- no line is longer
+abbrev pub lineSize : ℕ
+lineSize = 72
+
+-- the longest listing: the header and a line for each word
 abbrev pub pageSize : ℕ
-pageSize = 196704
+pageSize = lineSize * (listedWords + 1)

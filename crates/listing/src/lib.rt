@@ -30,8 +30,11 @@ impl Listing {
 
     pub const TOO_MANY: u64 = 9;
 
-    // Room for the longest listing: no line is longer than 96 bytes.
-    pub const PAGE: usize = 196704;
+    // No line is longer.
+    pub const LINE: usize = 72;
+
+    // Room for the longest listing: the header, and a line for each word.
+    pub const PAGE: usize = Listing::LINE * (Listing::WORDS + 1);
 }
 
 fn digit_count(n: u64) -> usize
@@ -265,4 +268,59 @@ fn word_at(bytes: &[u8], a: usize) -> u64
         k += 1;
     }
     word
+}
+
+// The lines of the first n words.
+fn put_lines(page: &mut [u8], at: usize, bytes: &[u8], n: usize) -> usize
+    requires { ⌜ Fits (textOf (linesFrom (now bytes) 0 n)) (now page) at × (n * wordBytes ≤ length (now bytes)) ⌝ }
+    ensures { λ r. ⌜ Put (textOf (linesFrom (now (bytes .entry)) 0 n)) (now (page .entry)) at (now (page .exit)) r ⌝ }
+{
+    let mut end = at;
+    let mut a: usize = 0;
+    while a < n {
+        end = put_line(page, end, a as u64, word_at(bytes, a));
+        a += 1;
+    }
+    end
+}
+
+// The whole listing, from the start of a page.
+fn lay_out(bytes: &[u8], page: &mut [u8]) -> usize
+    requires { ⌜ pageSize ≤ length (now page) ⌝ }
+    ensures { λ r. ⌜ Put (listingOf (now (bytes .entry))) (now (page .entry)) 0 (now (page .exit)) r ⌝ }
+{
+    if bytes.len() % Listing::WORD_BYTES != 0 {
+        return put_pair(page, b"refused", Listing::NOT_WHOLE);
+    }
+    let n = bytes.len() / Listing::WORD_BYTES;
+    if Listing::WORDS < n {
+        return put_pair(page, b"refused", Listing::TOO_MANY);
+    }
+    let from = put_pair(page, b"aps2-listing", Listing::EDITION);
+    put_lines(page, from, bytes, n)
+}
+
+// The first n bytes of a page, at the start of a buffer.
+fn hand_over(page: &[u8], n: usize, out: &mut [u8])
+    requires { ⌜ (n ≤ length (now page)) × (n ≤ length (now out)) ⌝ }
+    ensures { λ _. ⌜ now (out .exit) ≡ take n (now (page .entry)) ++ drop n (now (out .entry)) ⌝ }
+{
+    let mut i: usize = 0;
+    while i < n {
+        out[i] = page[i];
+        i += 1;
+    }
+}
+
+// The length of the listing, which is written where it fits.
+pub fn list(bytes: &[u8], out: &mut [u8]) -> usize
+    ensures { λ r. ⌜ Listed (listingOf (now (bytes .entry))) (now (out .entry)) (now (out .exit)) r ⌝ }
+{
+    let mut page = [0u8; Listing::PAGE];
+    let n = lay_out(bytes, &mut page);
+    if out.len() < n {
+        return n;
+    }
+    hand_over(&page, n, out);
+    n
 }

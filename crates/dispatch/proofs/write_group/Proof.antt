@@ -8,7 +8,7 @@ use borrow.Author.Needs.{needs}
 use lib.ListN.{length, drop, length-drop, length-set}
 use lib.Seq.{getD-drop}
 use Rattle.dispatch.specs.Trace.{part}
-use Rattle.dispatch.proofs.Lists.{fill-next}
+use Rattle.buffer.proofs.Laws.{fill-next}
 use Rattle.dispatch.proofs.write_group.Statement.{statement}
 use Rattle.dispatch.proofs.write_group.Tie as tie
 

@@ -1,9 +1,8 @@
 -- Each turn writes the last digit of what is left.
 use Prim.Native.Nat.{_+_}
-use mathlib.Core.Path.{refl, ap, _∙_}
+use mathlib.Core.Path.{ap, _∙_}
 use native.Mathlib.Omega.{arith}
-use lib.ListN.{length, length-set}
-use Rattle.listing.specs.Text.{decimal}
+use lib.ListN.{length-set}
 use Rattle.listing.proofs.Decimal.{decimal-some, Spelled, spell-start, spell-length, spell-inside, spell-more, spell-next, spell-end}
 use borrow.Author.Needs.{needs}
 use Rattle.listing.proofs.put_number.Statement.{statement}
