@@ -36,6 +36,11 @@ uint64_t aps2_check(const uint64_t *words, size_t n, uint64_t wave, uint64_t *ma
 uint64_t aps2_run(const uint64_t *words, size_t n, uint64_t wave, const uint8_t *messages, size_t messages_len,
                   uint32_t triggers, uint64_t *trace, size_t trace_len, uint64_t budget, uint64_t answer[54]);
 
+/* Lists raw words, eight bytes each, most significant first, at most 2,048: a header line, then a line for each word, parted by tabs
+   and ended by line feeds. Bytes that are no whole number of words, or too many, give one line, `refused` and 8 or 9. Returns the
+   listing's length, and writes it to `out` where it fits; where it does not, nothing is written. */
+size_t aps2_listing(const uint8_t *bytes, size_t len, uint8_t *out, size_t out_len);
+
 #ifdef __cplusplus
 }
 #endif

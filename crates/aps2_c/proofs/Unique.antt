@@ -8,6 +8,7 @@ use Rattle.writer.specs.declared.Written.{Written}
 use Rattle.machine.specs.State.{Did}
 use Rattle.verdict.specs.declared.Verdict.{Verdict}
 use Rattle.verdict.proofs.Unique.{one-answer-check}
+use Rattle.listing.specs.Listing.{Listed}
 use Rattle.aps2_c.specs.Fields.{Read, Wrote}
 use Rattle.aps2_c.specs.Answer.{Ran, Checked}
 
@@ -29,3 +30,6 @@ one-answer-aps2-check wave words before p q =
       p .place ∙ ap (λ (v : Verdict). v .place ∷ []) (o .0) ∙ sym (q .place),
       o .1,
     )
+
+pub one-answer-aps2-listing : (text before : List ℕ) {r r′ : ℕ} {after after′ : List ℕ} → Listed text before after r → Listed text before after′ r′ → (r ≡ r′) × (after ≡ after′)
+one-answer-aps2-listing text before p q = (p .size ∙ sym (q .size), p .out ∙ sym (q .out))

@@ -7,6 +7,7 @@ ghost use Rattle.instruction.specs.Table.{bodyOf};
 ghost use Rattle.reader.specs.Reading.{readingOf};
 ghost use Rattle.machine.specs.State.{fixedBy};
 ghost use Rattle.rehearsal.specs.Run.{rehearse};
+ghost use Rattle.listing.specs.Listing.{listingOf, Listed};
 ghost use Rattle.aps2_c.specs.Answer.{conditionOf, flatWith, Ran, Checked};
 ghost use Rattle.aps2_c.specs.Fields.{shownOf, fieldsOf, Read, isName, filledPast, valuesAsked, wishOf, Wrote};
 use instruction::Body;
@@ -20,6 +21,7 @@ use instruction::Refusal;
 use instruction::Repeats;
 use instruction::WaveformFields;
 use instruction::WordAddress;
+use listing::list;
 use machine::Condition;
 use reader::Reading;
 use reader::read;
@@ -316,4 +318,11 @@ pub extern "C" fn aps2_run(
     let condition = core.condition;
     *answer = flat(condition_of(condition), a);
     a.end.number
+}
+
+#[no_mangle]
+pub extern "C" fn aps2_listing(bytes: &[u8], out: &mut [u8]) -> usize
+    ensures { λ r. ⌜ Listed (listingOf (now (bytes .entry))) (now (out .entry)) (now (out .exit)) r ⌝ }
+{
+    list(bytes, out)
 }

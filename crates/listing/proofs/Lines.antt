@@ -5,6 +5,7 @@ use mathlib.Core.Bool.{Bool}
 use mathlib.Core.List.{List, [], _∷_, _++_, map, append-assoc, append-nil}
 use Prim.Native.Nat.{ℕ, suc, _+_, _-_, _*_, _/_, _%_, _^_, _≤_, _<_}
 use native.Mathlib.Nat.{lt-of-lt-of-le, add-zero}
+use native.Mathlib.Decide.{ℕ-discrete, decLt}
 use native.Mathlib.Omega.{arith}
 use lib.Pow.{pow-add, pow-mono}
 use borrow.Author.Tests.{eq-eqb, ne-eqb, lt-ltb, le-ltb, lt-leb, le-leb}
@@ -17,7 +18,7 @@ use Rattle.reader.specs.Reading.{readingOf}
 use Rattle.buffer.specs.Put.{put, Fits, Put}
 use Rattle.buffer.proofs.Laws.{put-none, length-put, fits-first, fits-next, puts-both, front-put}
 use Rattle.listing.specs.Text.{number, letters, decimal, tab, restText, lineText, textOf}
-use Rattle.listing.specs.Listing.{wordBytes, wordAt, nameOf, shownOf, entriesOf, entriesIn, linesFrom, listedWords, listingOf, Listed}
+use Rattle.listing.specs.Listing.{wordBytes, wordAt, nameOf, shownOf, entriesOf, entriesIn, linesFrom, listedWords, listingOf, Listed, heardSize, heardOf, HeardSame}
 
 module _ (i : Instruction) where
   pub noop-line : codeOf (i .body) ≡ codeOf Noop → restText (entriesOf i) ≡ (tab ∷ letters (nameOf (i .body))) ++ restText []
@@ -139,3 +140,26 @@ listed-whole text before t {page = page} e l p h =
           ∙ ap (λ (x : List ℕ). x ++ drop (length text) before) (ap (λ (x : List ℕ). take (length text) x) p ∙ front-put t text)
           ∙ sym (ap (λ (b : Bool). pick b (text ++ drop (length text) before) before) (le-leb (length text) (length before) (omega (arith, e, l))));
     }
+
+-- ---- an input that is too long to be kept
+
+pub heard-short : (n : ℕ) → n < heardSize → heardOf n ≡ n
+heard-short n l = ap (λ (b : Bool). pick b n (heardSize - wordBytes + n % wordBytes)) (lt-ltb n heardSize l)
+
+pub heard-long : (n : ℕ) → heardSize ≤ n → heardOf n ≡ heardSize - wordBytes + n % wordBytes
+heard-long n l = ap (λ (b : Bool). pick b n (heardSize - wordBytes + n % wordBytes)) (le-ltb n heardSize l)
+
+pub heard-same : HeardSame
+heard-same input bytes e same = by (decLt (length input) heardSize) (ℕ-discrete (length input % wordBytes) 0)
+  where
+    long : (n m : ℕ) → heardSize ≤ n → m ≡ heardSize - wordBytes + n % wordBytes → (m % wordBytes ≡ n % wordBytes) × (listedWords < m / wordBytes) × (listedWords < n / wordBytes)
+    long n m l e = (omega arith, omega arith, omega arith)
+
+    by : Dec (length input < heardSize) → Dec (length input % wordBytes ≡ 0) → listingOf bytes ≡ listingOf input
+    by (yes l) d = ap listingOf (same l)
+    by (no h) (yes z) =
+        let x = long (length input) (length bytes) (omega arith) (e ∙ heard-long (length input) (omega arith)) in
+        listing-9 bytes (x .0 ∙ z) (x .1) ∙ sym (listing-9 input z (x .2))
+    by (no h) (no z) =
+        let x = long (length input) (length bytes) (omega arith) (e ∙ heard-long (length input) (omega arith)) in
+        listing-8 bytes (λ q. z (sym (x .0) ∙ q)) ∙ sym (listing-8 input z)

@@ -1,6 +1,6 @@
 -- The listing of raw words. Document 01, "The listing program".
 -- "It reads raw words .., eight bytes each, most significant first, at most 2,048."
-use Prim.Native.Nat.{ℕ, zero, suc, _+_, _*_, _/_, _%_}
+use Prim.Native.Nat.{ℕ, zero, suc, _+_, _-_, _*_, _/_, _%_, _<_}
 use Prim.Native.String.{String}
 use mathlib.Core.Path.{_≡_}
 use mathlib.Core.Bool.{Bool, not, _||_}
@@ -103,6 +103,22 @@ listingOf bytes = textOf (linesOf bytes)
 pub record Listed (text before after : List ℕ) (r : ℕ) : Type 0 where
   pub size : r ≡ length text
   pub out : after ≡ pick (leb (length text) (length before)) (text ++ drop (length text) before) before
+
+-- ---- an input that is too long to be kept
+
+-- bytes that are enough to tell the listing
+abbrev pub heardSize : ℕ
+heardSize = wordBytes * (listedWords + 2)
+
+-- how many bytes to hand over of so many: those of a long input only tell whether they are whole words, and that they are too many
+abbrev pub heardOf : ℕ → ℕ
+heardOf total = pick (ltb total heardSize) total (heardSize - wordBytes + total % wordBytes)
+
+-- bytes in place of an input have its listing
+abbrev pub HeardSame : Type 0
+HeardSame =
+    (input bytes : List ℕ) → length bytes ≡ heardOf (length input) → (length input < heardSize → bytes ≡ input)
+    → listingOf bytes ≡ listingOf input
 
 -- ---- what the functions ask
 

@@ -7,7 +7,7 @@ ghost use lib.ListN.{length, take, drop};
 ghost use Rattle.buffer.specs.Put.{Fits, Put};
 ghost use Rattle.reader.specs.Reading.{readingOf};
 ghost use Rattle.listing.specs.Text.{Entry, name, number, letters, digit, decimal, tab, lineFeed, restText, lineText, textOf};
-ghost use Rattle.listing.specs.Listing.{wordBytes, byteSpan, wordAt, nameOf, shownOf, entriesOf, entriesIn, linesFrom, listingOf, pageSize, Listed};
+ghost use Rattle.listing.specs.Listing.{wordBytes, byteSpan, wordAt, nameOf, shownOf, entriesOf, entriesIn, linesFrom, listingOf, heardSize, heardOf, pageSize, Listed};
 use instruction::Body;
 use instruction::Instruction;
 use reader::Reading;
@@ -29,6 +29,9 @@ impl Listing {
     pub const NOT_WHOLE: u64 = 8;
 
     pub const TOO_MANY: u64 = 9;
+
+    // Bytes of an input that are enough to tell its listing: two words more than are listed.
+    pub const HEARD: usize = Listing::WORD_BYTES * (Listing::WORDS + 2);
 
     // No line is longer.
     pub const LINE: usize = 72;
@@ -323,4 +326,14 @@ pub fn list(bytes: &[u8], out: &mut [u8]) -> usize
     }
     hand_over(&page, n, out);
     n
+}
+
+// How many bytes to hand to `list` for an input of so many: of one that is too long, a word more than are listed and what is left over.
+pub fn heard(total: usize) -> usize
+    ensures { λ r. ⌜ (r ≡ heardOf total) × (r < heardSize) ⌝ }
+{
+    if total < Listing::HEARD {
+        return total;
+    }
+    Listing::HEARD - Listing::WORD_BYTES + total % Listing::WORD_BYTES
 }

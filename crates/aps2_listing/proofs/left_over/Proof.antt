@@ -1,0 +1,52 @@
+-- Less than a word is left over.
+use Prim.Native.Nat.{_<_}
+use native.Mathlib.Omega.{arith}
+use Rattle.listing.specs.Listing.{wordBytes}
+use borrow.Author.Needs.{needs}
+use Rattle.aps2_listing.proofs.left_over.Statement.{statement}
+use Rattle.aps2_listing.proofs.left_over.Tie as tie
+
+abbrev Inv-loop : tie.InvT-loop
+Inv-loop over₀ turns₀ over turns = over < wordBytes
+
+abbrev μ-loop : tie.MeasureT-loop
+μ-loop over₀ turns₀ over turns = turns
+
+loop-holds : tie.Need-loop-holds Inv-loop μ-loop
+loop-holds c = omega arith
+
+read-part-requires : tie.Need-read-part-requires Inv-loop μ-loop
+read-part-requires c κs = search needs
+
+add-over : tie.Need-add-over Inv-loop μ-loop
+add-over c = omega arith
+
+returns : tie.Need-returns Inv-loop μ-loop
+returns c = omega arith
+
+sub-turns : tie.Need-sub-turns Inv-loop μ-loop
+sub-turns c = omega arith
+
+loop-less : tie.Need-loop-less Inv-loop μ-loop
+loop-less c = omega arith
+
+loop-again : tie.Need-loop-again Inv-loop μ-loop
+loop-again c = omega arith
+
+returns-2 : tie.Need-returns-2 Inv-loop μ-loop
+returns-2 c = omega arith
+
+pub left-over-spec : {M : Type 1} → statement M
+left-over-spec =
+    tie.close
+    (tie.spec
+    Inv-loop
+    μ-loop
+    loop-holds
+    read-part-requires
+    add-over
+    returns
+    sub-turns
+    loop-less
+    loop-again
+    returns-2)
