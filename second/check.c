@@ -1,13 +1,22 @@
-/* The check: document 01, "Check" and H8. The walk goes over all places again and again until none is new. */
+/* The check: document 01, "Check" and H8. The walk follows each address on from where its mark grew,
+   all depths of a mark at once, and keeps a list of the addresses still to be followed. */
 #include "word.h"
 
 enum { WORDS = 65536, WAVE = 16777216, STACK = 16, GROUP = 8 };
 
+/* Bit 2d + c of a mark is depth d, with a condition where c is 1. A set of depths has its bits where c is 0. */
+#define DEPTHS UINT64_C(0x155555555)
+#define DEEPEST (UINT64_C(1) << 2 * STACK)
+#define LISTED (UINT64_C(1) << 63) /* in a mark, only while the walk goes on: the address is to be followed */
+
 struct walk {
     const uint64_t *words;
     uint64_t *marks;
-    size_t n;
-    int past, grew;
+    size_t n, calls, follows;
+    uint64_t back;          /* the depths to which a reached RETURN leads */
+    uint64_t number, place; /* the fault at the lowest address so far */
+    uint32_t call[WORDS];   /* the CALLs that are reached */
+    uint32_t follow[WORDS]; /* the addresses to be followed */
 };
 
 static int is_engine(uint64_t word)
@@ -28,93 +37,100 @@ static int passes(const uint64_t *words, size_t n, size_t a)
 /* Form, 20, 21, 22 of the word at a. */
 static uint64_t judge(const uint64_t *words, size_t n, uint64_t wave, size_t a)
 {
-    uint64_t word = words[a], f[4] = { 0 };
-    if (word == ~UINT64_C(0))
-        return 0;
-    uint64_t number = take_apart(word, f), code = GET(word, 63, 60);
+    uint64_t word = words[a], number = refusal(word, wave, n);
     if (number)
         return number;
-    if (code == WAVEFORM && f[0] == 0 && !f[1] && f[2] + f[3] > wave)
-        return 20;
-    if (code == WAVEFORM && ((f[0] == 0 && f[1]) || f[0] == 3) && f[3] >= wave)
-        return 20;
-    if ((code == REPEAT || code == GOTO || code == CALL || code == PREFETCH) && f[0] >= n)
-        return 21;
     return is_engine(word) && !GET(word, 56, 56) && !passes(words, n, a) ? 22 : 0;
 }
 
-static void reach(struct walk *w, size_t a, int depth, int held)
+static uint64_t any(uint64_t mark) { return (mark | mark >> 1) & DEPTHS; }
+static uint64_t held(uint64_t mark) { return mark >> 1 & DEPTHS; }
+
+static void fault(struct walk *w, uint64_t number, size_t a)
 {
-    uint64_t bit = UINT64_C(1) << (2 * depth + held);
+    if (!w->number || a < w->place) {
+        w->number = number;
+        w->place = a;
+    }
+}
+
+/* Whether one of these places is new at an address below n; it is then marked. */
+static int grows(struct walk *w, size_t a, uint64_t places)
+{
+    uint64_t old = w->marks[a];
+    if (!(places & ~old))
+        return 0;
+    if (!old && GET(w->words[a], 63, 60) == CALL)
+        w->call[w->calls++] = (uint32_t)a;
+    w->marks[a] = old | places;
+    return 1;
+}
+
+/* Places reached by a jump: what is new is followed later. */
+static void reach(struct walk *w, size_t a, uint64_t places)
+{
     if (a == w->n) {
-        w->past = 1;
-    } else if (!(w->marks[a] & bit)) {
-        w->marks[a] |= bit;
-        w->grew = 1;
+        if (places)
+            fault(w, 30, a);
+    } else if (grows(w, a, places) && !(w->marks[a] & LISTED)) {
+        w->marks[a] |= LISTED;
+        w->follow[w->follows++] = (uint32_t)a;
     }
 }
 
-static int reached(const struct walk *w, size_t a, int depth) { return (int)(w->marks[a] >> (2 * depth) & 3); }
-
-/* Where one place leads. */
-static void from(struct walk *w, size_t a, int depth, int held)
+/* RETURN leads to the address after every CALL reached one depth less; the CALLs reached later look at `back`. */
+static void leave(struct walk *w, size_t a, uint64_t mark)
 {
-    uint64_t word = w->words[a], code = word == ~UINT64_C(0) ? NOOP : GET(word, 63, 60), to = GET(word, 25, 0);
-    switch (code) {
-    case CMP:
-        reach(w, a + 1, depth, 1);
-        return;
-    case GOTO:
-        reach(w, to, depth, 0);
-        break;
-    case CALL:
-        if (depth < STACK)
-            reach(w, to, depth + 1, 0);
-        break;
-    case RETURN:
-        for (size_t b = 0; depth && b < w->n; b++)
-            if (w->words[b] != ~UINT64_C(0) && GET(w->words[b], 63, 60) == CALL && reached(w, b, depth - 1))
-                reach(w, b + 1, depth - 1, 0);
-        break;
-    case REPEAT:
-        reach(w, to, depth, held);
-        reach(w, a + 1, depth, held);
-        return;
-    default:
-        reach(w, a + 1, depth, held);
-        return;
-    }
-    if (held)
-        reach(w, a + 1, depth, 0);
+    uint64_t fresh = any(mark) >> 2 & ~w->back;
+    if (any(mark) & 1)
+        fault(w, 32, a);
+    w->back |= fresh;
+    for (size_t i = 0; fresh && i < w->calls; i++)
+        reach(w, w->call[i] + (size_t)1, any(w->marks[w->call[i]]) & fresh);
 }
 
+/* Where the places of one address lead: the jumps are reached, and the places at the next address are returned. */
+static uint64_t leads(struct walk *w, size_t a)
+{
+    uint64_t word = w->words[a], mark = w->marks[a] & ~LISTED;
+    switch (GET(word, 63, 60)) {
+    case CMP:
+        return any(mark) << 1;
+    case GOTO:
+        reach(w, GET(word, 25, 0), any(mark));
+        return held(mark);
+    case CALL:
+        if (any(mark) & DEEPEST)
+            fault(w, 31, a);
+        reach(w, GET(word, 25, 0), (any(mark) & ~DEEPEST) << 2);
+        return held(mark) | (any(mark) & w->back);
+    case RETURN:
+        leave(w, a, mark);
+        return held(mark);
+    case REPEAT:
+        reach(w, GET(word, 25, 0), mark);
+        return mark;
+    default:
+        return mark;
+    }
+}
+
+/* An address is followed to the next, and that to its next, as long as there is something new. */
 static void walk(struct walk *w)
 {
     for (size_t a = 0; a < w->n; a++)
         w->marks[a] = 0;
-    reach(w, 0, 0, 0);
-    while (w->grew) {
-        w->grew = 0;
-        for (size_t a = 0; a < w->n; a++)
-            for (int k = 0; k < 2 * (STACK + 1); k++)
-                if (w->marks[a] >> k & 1)
-                    from(w, a, k / 2, k % 2);
+    reach(w, 0, 1);
+    while (w->follows) {
+        size_t a = w->follow[--w->follows];
+        uint64_t next;
+        w->marks[a] &= ~LISTED;
+        do
+            next = leads(w, a++);
+        while (a < w->n && grows(w, a, next));
+        if (a == w->n && next)
+            fault(w, 30, a);
     }
-}
-
-/* The fault at the lowest address; n is the address past the last word. */
-static uint64_t fault(const struct walk *w, uint64_t place[1])
-{
-    for (size_t a = 0; a < w->n; a++) {
-        uint64_t code = w->words[a] == ~UINT64_C(0) ? NOOP : GET(w->words[a], 63, 60);
-        place[0] = a;
-        if (code == CALL && reached(w, a, STACK))
-            return 31;
-        if (code == RETURN && reached(w, a, 0))
-            return 32;
-    }
-    place[0] = w->past ? w->n : 0;
-    return w->past ? 30 : 0;
 }
 
 uint64_t second_check(const uint64_t *words, size_t n, uint64_t wave, uint64_t *marks, size_t marks_len, uint64_t place[1])
@@ -130,7 +146,11 @@ uint64_t second_check(const uint64_t *words, size_t n, uint64_t wave, uint64_t *
             return number;
         }
     }
-    struct walk w = { words, marks, n, 0, 0 };
+    struct walk w;
+    w.words = words, w.marks = marks, w.n = n;
+    w.calls = w.follows = 0;
+    w.back = w.number = w.place = 0;
     walk(&w);
-    return fault(&w, place);
+    place[0] = w.place;
+    return w.number;
 }

@@ -1,56 +1,78 @@
-/* The run: document 01, "One step", in place on one state. */
+/* The run: document 01, "One step", in place on one state.
+   The single numbers of the state stand apart from its lists, so that they can stay in registers. */
 #include "word.h"
 
 enum { WORDS = 65536, WAVE = 16777216, BUDGET = 1000000, STACK = 16, GROUP = 8, ENGINES = 6 };
 
+struct input {
+    const uint64_t *words;
+    size_t n, messages_len, room;
+    uint64_t wave;
+    const uint8_t *messages;
+    uint32_t triggers;
+    uint64_t *trace;
+};
+
 struct state {
     uint64_t address, steps, used, sent, counter, reg, condition, held, depth;
+};
+
+struct lists {
     uint64_t waits[ENGINES], totals[ENGINES], back[STACK], counters[STACK];
 };
 
 /* What one dispatched word does to the engines' counts. */
-static void count(struct state *s, uint64_t word)
+static void count(struct lists *l, uint64_t word)
 {
     uint64_t op = GET(word, 47, 46), engine;
     switch (GET(word, 63, 60)) {
     case WAVEFORM:
         if (op == 0)
-            s->totals[0] += GET(word, 44, 24);
+            l->totals[0] += GET(word, 44, 24);
         if (op == 1)
-            s->waits[0]++;
+            l->waits[0]++;
         break;
     case MARKER:
         engine = 1 + GET(word, 59, 58);
         if (op == 0)
-            s->totals[engine] += GET(word, 31, 0);
+            l->totals[engine] += GET(word, 31, 0);
         if (op == 1)
-            s->waits[engine]++;
+            l->waits[engine]++;
         break;
     case MODULATOR:
         op = GET(word, 47, 45);
         if (op == 0)
-            s->totals[5] += GET(word, 31, 0);
+            l->totals[5] += GET(word, 31, 0);
         if (op == 2)
-            s->waits[5]++;
+            l->waits[5]++;
         break;
     case WAIT:
         for (int i = 0; i < ENGINES; i++)
-            s->waits[i]++;
+            l->waits[i]++;
         break;
     }
 }
 
 /* The held words and the one at the address go out, or 43. */
-static uint64_t send(struct state *s, const uint64_t *words, uint64_t *trace, size_t room)
+static uint64_t send(struct state *s, struct lists *l, const struct input *in)
 {
-    if (s->sent + s->held + 1 > room)
+    if (s->sent + s->held + 1 > in->room)
         return 43;
     for (uint64_t a = s->address - s->held; a <= s->address; a++) {
-        trace[s->sent++] = words[a];
-        count(s, words[a]);
+        in->trace[s->sent++] = in->words[a];
+        count(l, in->words[a]);
     }
     s->held = 0;
     s->address++;
+    return 0;
+}
+
+/* H6. */
+static int awaits_trigger(const struct lists *l, uint32_t triggers)
+{
+    for (int i = 0; i < ENGINES; i++)
+        if (l->waits[i] > triggers)
+            return 1;
     return 0;
 }
 
@@ -64,131 +86,125 @@ static int compares(uint64_t code, uint64_t reg, uint64_t mask)
     }
 }
 
-/* 20 and 21, for a word of good form. */
-static uint64_t placing(uint64_t code, const uint64_t f[4], uint64_t wave, size_t n)
+/* H4: a jump that the condition lets act, or the next address; the condition is used up. */
+static void jump(struct state *s, uint64_t to)
 {
-    if (code == WAVEFORM) {
-        int plain = f[0] == 0 && !f[1];
-        if (plain ? f[3] + f[2] > wave : (f[0] == 0 || f[0] == 3) && f[3] >= wave)
-            return 20;
+    s->address = s->condition != 1 ? to : s->address + 1;
+    s->condition = 0;
+}
+
+/* H5, and 31. */
+static uint64_t call(struct state *s, struct lists *l, uint64_t to)
+{
+    if (s->condition != 1) {
+        if (s->depth == STACK)
+            return 31;
+        l->back[s->depth] = s->address + 1;
+        l->counters[s->depth++] = s->counter;
     }
-    if ((code == REPEAT || code == GOTO || code == CALL || code == PREFETCH) && f[0] >= n)
-        return 21;
+    jump(s, to);
     return 0;
 }
 
-/* One step: 0 where it moved, and else the number, with nothing altered. */
-static uint64_t step(struct state *s, const uint64_t *words, size_t n, uint64_t wave, const uint8_t *messages, size_t messages_len,
-                     uint32_t triggers, uint64_t *trace, size_t room)
+/* H5, and 32. */
+static uint64_t leave(struct state *s, struct lists *l)
 {
-    if (s->address >= n)
-        return 30;
-    uint64_t word = words[s->address], f[4] = { 0 }, code = NOOP, number;
-    if (word != ~UINT64_C(0)) {
-        number = take_apart(word, f);
-        if (number)
-            return number;
-        code = GET(word, 63, 60);
-        number = placing(code, f, wave, n);
-        if (number)
-            return number;
+    uint64_t to = 0;
+    if (s->condition != 1) {
+        if (s->depth == 0)
+            return 32;
+        s->depth--;
+        to = l->back[s->depth];
+        s->counter = l->counters[s->depth];
+        l->back[s->depth] = l->counters[s->depth] = 0;
     }
-    int engine = code == WAVEFORM || code == MARKER || code == MODULATOR, high = (int)GET(word, 56, 56);
-    if (s->held && (!engine || (s->held == GROUP - 1 && !high)))
-        return 22;
-    int taken = s->condition != 1;
-    switch (code) {
+    jump(s, to);
+    return 0;
+}
+
+/* What a word does that form, 20, 21 and 22 let through: 0 where it moved, and else the number, with nothing altered. */
+static uint64_t act(struct state *s, struct lists *l, const struct input *in, uint64_t word)
+{
+    switch (GET(word, 63, 60)) {
+    case SYNC:
+        if (awaits_trigger(l, in->triggers))
+            return 41;
+        /* and then as the others that are dispatched */
     case WAVEFORM:
     case MARKER:
     case MODULATOR:
-        if (high)
-            return send(s, words, trace, room);
-        s->held++;
-        s->address++;
-        return 0;
-    case SYNC:
-        for (int i = 0; i < ENGINES; i++)
-            if (s->waits[i] > triggers)
-                return 41;
-        return send(s, words, trace, room);
     case WAIT:
-        return send(s, words, trace, room);
+        if (GET(word, 56, 56))
+            return send(s, l, in);
+        s->held++;
+        break;
     case LOAD_REPEAT:
         s->counter = GET(word, 15, 0);
-        s->address++;
-        return 0;
-    case REPEAT:
-        if (s->counter) {
-            s->counter--;
-            s->address = f[0];
-        } else {
-            s->address++;
-        }
+        break;
+    case REPEAT: /* H3 */
+        s->address = s->counter ? GET(word, 25, 0) : s->address + 1;
+        s->counter -= s->counter != 0;
         return 0;
     case CMP:
-        s->condition = compares(f[0], s->reg, f[1]) ? 2 : 1;
-        s->address++;
-        return 0;
+        s->condition = compares(GET(word, 9, 8), s->reg, GET(word, 7, 0)) ? 2 : 1;
+        break;
     case GOTO:
-        s->address = taken ? f[0] : s->address + 1;
-        s->condition = 0;
+        jump(s, GET(word, 25, 0));
         return 0;
     case CALL:
-        if (taken) {
-            if (s->depth == STACK)
-                return 31;
-            s->back[s->depth] = s->address + 1;
-            s->counters[s->depth++] = s->counter;
-        }
-        s->address = taken ? f[0] : s->address + 1;
-        s->condition = 0;
-        return 0;
+        return call(s, l, GET(word, 25, 0));
     case RETURN:
-        if (taken) {
-            if (s->depth == 0)
-                return 32;
-            s->depth--;
-            s->address = s->back[s->depth];
-            s->counter = s->counters[s->depth];
-            s->back[s->depth] = s->counters[s->depth] = 0;
-        } else {
-            s->address++;
-        }
-        s->condition = 0;
-        return 0;
+        return leave(s, l);
     case LOAD_CMP:
-        if (s->used >= messages_len)
+        if (s->used >= in->messages_len)
             return 42;
-        s->reg = messages[s->used++];
-        s->address++;
-        return 0;
-    default:
-        s->address++;
-        return 0;
+        s->reg = in->messages[s->used++];
+        break;
     }
+    s->address++;
+    return 0;
 }
 
-static void tell(uint64_t end, const struct state *s, uint64_t answer[54])
+static int breaks_group(uint64_t held, uint64_t word)
+{
+    uint64_t code = GET(word, 63, 60);
+    int engine = code == WAVEFORM || code == MARKER || code == MODULATOR;
+    return held && (!engine || (held == GROUP - 1 && !GET(word, 56, 56)));
+}
+
+/* One step, in the document's order of tests; the budget is the run's. */
+static uint64_t step(struct state *s, struct lists *l, const struct input *in)
+{
+    if (s->address >= in->n)
+        return 30;
+    uint64_t word = in->words[s->address], number = refusal(word, in->wave, in->n);
+    if (number)
+        return number;
+    return breaks_group(s->held, word) ? 22 : act(s, l, in, word);
+}
+
+static void tell(uint64_t end, const struct state *s, const struct lists *l, uint64_t answer[54])
 {
     const uint64_t one[5] = { end, s->address, s->steps, s->used, s->sent }, two[5] = { s->counter, s->reg, s->condition, s->held, s->depth };
     for (int i = 0; i < 5; i++)
         answer[i] = one[i], answer[17 + i] = two[i];
     for (int i = 0; i < ENGINES; i++)
-        answer[5 + i] = s->waits[i], answer[11 + i] = s->totals[i];
+        answer[5 + i] = l->waits[i], answer[11 + i] = l->totals[i];
     for (int i = 0; i < STACK; i++)
-        answer[22 + i] = s->back[i], answer[38 + i] = s->counters[i];
+        answer[22 + i] = l->back[i], answer[38 + i] = l->counters[i];
 }
 
 uint64_t second_run(const uint64_t *words, size_t n, uint64_t wave, const uint8_t *messages, size_t messages_len, uint32_t triggers,
                     uint64_t *trace, size_t room, uint64_t budget, uint64_t answer[54])
 {
+    const struct input in = { words, n, messages_len, room, wave, messages, triggers, trace };
     struct state s = { 0 };
+    struct lists l = { { 0 }, { 0 }, { 0 }, { 0 } };
     uint64_t end = n == 0 ? 1 : n > WORDS ? 2 : wave > WAVE ? 3 : budget > BUDGET ? 5 : 0;
     while (end == 0) {
-        end = s.steps == budget ? 40 : step(&s, words, n, wave, messages, messages_len, triggers, trace, room);
-        if (end == 0)
-            s.steps++;
+        end = s.steps == budget ? 40 : step(&s, &l, &in);
+        s.steps += end == 0;
     }
-    tell(end, &s, answer);
+    tell(end, &s, &l, answer);
     return end;
 }

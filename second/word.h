@@ -11,29 +11,6 @@
 
 enum { WAVEFORM, MARKER, WAIT, LOAD_REPEAT, REPEAT, CMP, GOTO, CALL, RETURN, SYNC, MODULATOR, LOAD_CMP, PREFETCH, NOOP = 15 };
 
-/* The table: how many fields a row has, and each field's high and low bit. WAIT and SYNC have their op as row,
-   RETURN and LOAD_CMP the payload that the module ignores. */
-struct row {
-    int count;
-    struct { int hi, lo; } field[4];
-};
-
-__attribute__((unused)) static const struct row table[13] = {
-    [WAVEFORM] = { 4, { { 47, 46 }, { 45, 45 }, { 44, 24 }, { 23, 0 } } },
-    [MARKER] = { 4, { { 47, 46 }, { 36, 33 }, { 32, 32 }, { 31, 0 } } },
-    [WAIT] = { 1, { { 47, 46 } } },
-    [LOAD_REPEAT] = { 1, { { 15, 0 } } },
-    [REPEAT] = { 1, { { 25, 0 } } },
-    [CMP] = { 2, { { 9, 8 }, { 7, 0 } } },
-    [GOTO] = { 1, { { 25, 0 } } },
-    [CALL] = { 1, { { 25, 0 } } },
-    [RETURN] = { 1, { { 55, 0 } } },
-    [SYNC] = { 1, { { 47, 46 } } },
-    [MODULATOR] = { 3, { { 47, 45 }, { 43, 40 }, { 31, 0 } } },
-    [LOAD_CMP] = { 1, { { 55, 0 } } },
-    [PREFETCH] = { 1, { { 25, 0 } } },
-};
-
 #define HEADER (MASK(63, 60) | MASK(59, 58) | MASK(56, 56))
 #define PAYLOAD_OP MASK(47, 46)
 #define TARGET MASK(25, 0)
@@ -96,54 +73,66 @@ static inline uint64_t modulator_form(uint64_t op, uint64_t nco, uint64_t payloa
     }
 }
 
-/* 13 to 19, or 0; f is the row's fields. */
-static inline uint64_t form(uint64_t code, uint64_t write, const uint64_t *f)
+/* The form number of a word that is not NOOP, 10 to 19 or 0; f, zeros before, gets the fields of its row that mean something. */
+static inline uint64_t take_apart(uint64_t word, uint64_t f[4])
+{
+    uint64_t code = GET(word, 63, 60), op = GET(word, 47, 46);
+    if (code > PREFETCH)
+        return 10;
+    if (word & ~named[code])
+        return 11;
+    switch (code) {
+    case WAVEFORM:
+        f[0] = op, f[1] = GET(word, 45, 45), f[2] = GET(word, 44, 24), f[3] = GET(word, 23, 0);
+        return waveform_form(f[0], f[1], f[2], f[3]);
+    case MARKER:
+        f[0] = op, f[1] = GET(word, 36, 33), f[2] = GET(word, 32, 32), f[3] = GET(word, 31, 0);
+        return marker_form(f[0], f[1], f[2], f[3]);
+    case MODULATOR:
+        f[0] = GET(word, 47, 45), f[1] = GET(word, 43, 40), f[2] = GET(word, 31, 0);
+        return modulator_form(f[0], f[1], f[2]);
+    case WAIT:
+        return op != 1 ? 12 : GET(word, 56, 56) ? 0 : 13;
+    case SYNC:
+        return op != 2 ? 12 : GET(word, 56, 56) ? 0 : 13;
+    case CMP:
+        f[0] = GET(word, 9, 8), f[1] = GET(word, 7, 0);
+        return 0;
+    case RETURN:
+    case LOAD_CMP:
+        return 0;
+    default:
+        f[0] = GET(word, 25, 0);
+        return code == PREFETCH && f[0] % 128 ? 17 : 0;
+    }
+}
+
+/* 20 and 21, for a word of good form that stands among n words beside a waveform memory. */
+static inline uint64_t placing(uint64_t code, const uint64_t f[4], uint64_t wave, size_t n)
 {
     switch (code) {
     case WAVEFORM:
-        return waveform_form(f[0], f[1], f[2], f[3]);
-    case MARKER:
-        return marker_form(f[0], f[1], f[2], f[3]);
-    case WAIT:
-    case SYNC:
-        return write ? 0 : 13;
-    case MODULATOR:
-        return modulator_form(f[0], f[1], f[2]);
+        if (f[0] == 0 && !f[1])
+            return f[3] + f[2] > wave ? 20 : 0;
+        return (f[0] == 0 || f[0] == 3) && f[3] >= wave ? 20 : 0;
+    case REPEAT:
+    case GOTO:
+    case CALL:
     case PREFETCH:
-        return f[0] % 128 ? 17 : 0;
+        return f[0] >= n ? 21 : 0;
     default:
         return 0;
     }
 }
 
-/* The form number of a word that is not NOOP, 10 to 19 or 0; f gets the fields of its row. */
-static inline uint64_t take_apart(uint64_t word, uint64_t f[4])
+/* Form, then 20 and 21, of any word. */
+static inline uint64_t refusal(uint64_t word, uint64_t wave, size_t n)
 {
-    uint64_t code = GET(word, 63, 60);
-    if (code > PREFETCH)
-        return 10;
-    if (word & ~named[code])
-        return 11;
-    if ((code == WAIT && GET(word, 47, 46) != 1) || (code == SYNC && GET(word, 47, 46) != 2))
-        return 12;
-    switch (code) {
-    case WAVEFORM:
-        f[0] = GET(word, 47, 46), f[1] = GET(word, 45, 45), f[2] = GET(word, 44, 24), f[3] = GET(word, 23, 0);
-        break;
-    case MARKER:
-        f[0] = GET(word, 47, 46), f[1] = GET(word, 36, 33), f[2] = GET(word, 32, 32), f[3] = GET(word, 31, 0);
-        break;
-    case MODULATOR:
-        f[0] = GET(word, 47, 45), f[1] = GET(word, 43, 40), f[2] = GET(word, 31, 0);
-        break;
-    case CMP:
-        f[0] = GET(word, 9, 8), f[1] = GET(word, 7, 0);
-        break;
-    default:
-        f[0] = GET(word, 25, 0);
-        break;
-    }
-    return form(code, GET(word, 56, 56), f);
+    uint64_t f[4] = { 0 }, number;
+    if (word == ~UINT64_C(0))
+        return 0;
+    number = take_apart(word, f);
+    return number ? number : placing(GET(word, 63, 60), f, wave, n);
 }
 
 #endif

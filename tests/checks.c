@@ -1,10 +1,12 @@
-/* Checks, compared with the second program: the number, its place, and every mark, the tail included. The document's cases, random sequences, all small ones,
-   groups, nests to the stack's end, and the bounds of every input. A sequence that is accepted is then run, and must not fault. */
+/* Checks, compared with the second program: the number, its place, and every mark, the tail included; flow also with the plain walk over
+   places. The document's cases, random sequences, all small ones, groups, nests to the stack's end, conditions before jumps, and the
+   bounds of every input. A sequence that is accepted is then run, and must not fault. */
 #include "../include/aps2.h"
 #include "../second/second.h"
 #include "sequences.h"
 
 #define MOST 65540
+#define SMALL 64 /* words up to which flow is also compared with the plain walk over places */
 
 static uint64_t words[MOST], ours[MOST], theirs[MOST], trace[256], answer[54];
 static uint8_t messages[8] = { 0, 1, 2, 3, 0, 200, 1, 255 };
@@ -21,6 +23,11 @@ static uint64_t try_check(size_t n, uint64_t wave, size_t room)
     int good = number == other && our_place[0] == their_place[0];
     for (size_t i = 0; i < room + 2; i++)
         good &= ours[i] == theirs[i];
+    if (good && n <= SMALL && (number == 0 || number >= 30)) {
+        good = second_places(words, n, theirs, their_place) == number && our_place[0] == their_place[0];
+        for (size_t i = 0; i < n; i++)
+            good &= ours[i] == theirs[i];
+    }
     compared++;
     met[number < 64 ? number : 63]++;
     if (!good && !failed) {

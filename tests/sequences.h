@@ -8,10 +8,10 @@
 #define OP(code, rest) ((uint64_t)(code) << 60 | (rest))
 #define HIGH (UINT64_C(1) << 56)
 
-static uint64_t engine_select(void) { return below(4) << 58; }
+static inline uint64_t engine_select(void) { return below(4) << 58; }
 
 /* A word for an engine; its write flag as told. */
-static uint64_t engine_word(uint64_t wave, int high)
+static inline uint64_t engine_word(uint64_t wave, int high)
 {
     uint64_t w = engine_select() | (high ? HIGH : 0), count = 2 + below(4), address = below(wave ? wave : 1);
     switch (below(12)) {
@@ -30,7 +30,7 @@ static uint64_t engine_word(uint64_t wave, int high)
 }
 
 /* One word for address a of n. */
-static uint64_t any_word(size_t a, size_t n, uint64_t wave)
+static inline uint64_t any_word(size_t a, size_t n, uint64_t wave)
 {
     uint64_t to = below(40) ? below(n) : below(n + 3), near = a + 1 < n ? a + 1 + below(n - a - 1) : 0;
     switch (below(20)) {
@@ -54,7 +54,7 @@ static uint64_t any_word(size_t a, size_t n, uint64_t wave)
 }
 
 /* A whole sequence: n words, some in groups of low words, at times one bit damaged, and mostly with an end that does not fall off. */
-static void any_sequence(uint64_t *words, size_t n, uint64_t wave)
+static inline void any_sequence(uint64_t *words, size_t n, uint64_t wave)
 {
     for (size_t a = 0; a < n; a++)
         words[a] = any_word(a, n, wave);

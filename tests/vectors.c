@@ -1,5 +1,5 @@
 /* Cases from a separate implementation, one to a line on standard input, compared with the proved code.
-   The first line names the kind: `read`, `write`, `check` or `run`. Lists are parted by commas, `-` is the empty list, words are hexadecimal. */
+   The first line names the kind: `read`, `write`, `check`, `run` or `listing`. Lists are parted by commas, `-` is the empty list, words are hexadecimal. */
 #include "../include/aps2.h"
 #include "check.h"
 
@@ -134,13 +134,49 @@ static void check_cases(void)
     family("vectors: check");
 }
 
+#define TEXT 200000
+
+static uint8_t raw[TEXT], expected_text[TEXT], text[TEXT];
+
+/* The next bytes of the line, two hexadecimal digits each; tells how many. */
+static size_t hexadecimal(uint8_t *list)
+{
+    size_t n = 0;
+    while (next == ' ')
+        next = getchar();
+    if (next == '-')
+        next = getchar();
+    for (; (next >= '0' && next <= '9') || (next >= 'a' && next <= 'f'); next = getchar()) {
+        uint8_t digit = (uint8_t)(next <= '9' ? next - '0' : next - 'a' + 10);
+        list[n / 2] = (uint8_t)(n % 2 ? list[n / 2] << 4 | digit : digit);
+        n += n / 2 < TEXT - 1;
+    }
+    return n / 2;
+}
+
+static void listing_cases(void)
+{
+    while (more()) {
+        size_t n = hexadecimal(raw), length = hexadecimal(expected_text);
+        int good = aps2_listing(raw, n, text, TEXT) == length;
+        for (size_t i = 0; i < length; i++)
+            good &= text[i] == expected_text[i];
+        compared++;
+        if (!good)
+            disagree(compared);
+    }
+    family("vectors: listing");
+}
+
 int main(void)
 {
     int kind = getchar(), second = getchar();
     next = second;
     while (next != '\n')
         next = getchar();
-    if (kind == 'w')
+    if (kind == 'l')
+        listing_cases();
+    else if (kind == 'w')
         write_cases();
     else if (kind == 'c')
         check_cases();

@@ -1,0 +1,202 @@
+/* How long ours and the second program take for the same work on the same input.
+   They are called in turn, many times and with cleared buffers; the best time of each counts, and the answers must agree. */
+#include "../include/aps2.h"
+#include "../second/second.h"
+#include "../tests/sequences.h"
+
+enum { WORDS = 65536, FEWER = 4096, STEPS = 1000000, WAVE = 16, NEST = 16, ROUNDS = 12, TIMES = 4 };
+
+#define PLAY OP(0, HIGH | UINT64_C(2) << 24)
+#define REPEAT(to) OP(4, (uint64_t)(to))
+#define GOTO(to) OP(6, (uint64_t)(to))
+#define CALL(to) OP(7, (uint64_t)(to))
+#define RETURN OP(8, 0)
+
+struct moment {
+    long seconds, nanoseconds;
+};
+int clock_gettime(int clock, struct moment *now);
+
+static double now(void)
+{
+    struct moment m;
+    clock_gettime(1, &m); /* the clock that nobody sets */
+    return (double)m.seconds * 1e9 + (double)m.nanoseconds;
+}
+
+/* What both are given, and what each gives back; `lent` is the marks or the trace, and `room` says how much of it is lent. */
+static uint64_t words[WORDS];
+static size_t n, room;
+struct answer {
+    uint64_t number, place[1], fields[8], answer[54], lent[STEPS];
+};
+static struct answer ours, theirs;
+
+static void our_reading(void)
+{
+    for (size_t a = 0; a < n; a++)
+        ours.number += aps2_read(words[a], ours.fields);
+}
+
+static void their_reading(void)
+{
+    for (size_t a = 0; a < n; a++)
+        theirs.number += second_read(words[a], theirs.fields);
+}
+
+static void our_check(void) { ours.number = aps2_check(words, n, WAVE, ours.lent, room, ours.place); }
+static void their_check(void) { theirs.number = second_check(words, n, WAVE, theirs.lent, room, theirs.place); }
+static void our_run(void) { ours.number = aps2_run(words, n, WAVE, NULL, 0, 0, ours.lent, room, STEPS, ours.answer); }
+static void their_run(void) { theirs.number = second_run(words, n, WAVE, NULL, 0, 0, theirs.lent, room, STEPS, theirs.answer); }
+
+/* Plays, and a GOTO back to the first. */
+static void straight(void)
+{
+    for (size_t a = 0; a < n; a++)
+        words[a] = PLAY;
+    words[n - 1] = GOTO(0);
+}
+
+/* All kinds of words in no order, and the same ones in every round. */
+static void mixed(void)
+{
+    seed = 1;
+    any_sequence(words, n, WAVE);
+}
+
+/* From the last address down to the first, one GOTO after another. */
+static void backward(void)
+{
+    for (size_t a = 1; a < n; a++)
+        words[a] = GOTO(a - 1);
+    words[0] = GOTO(n - 1);
+}
+
+/* Nests of calls, each to the stack's end and back, one after another; plays where no nest has room. */
+static void nests(void)
+{
+    straight();
+    for (size_t from = 0; from + 2 * NEST + 1 < n; from += 2 * NEST + 1) {
+        for (size_t a = from; a < from + 2 * NEST; a += 2) {
+            words[a] = CALL(a + 2);
+            words[a + 1] = RETURN;
+        }
+        words[from + 1] = GOTO(from + 2 * NEST + 1);
+        words[from + 2 * NEST] = RETURN;
+    }
+}
+
+/* Every address at every depth, with a condition and without. */
+static void everything(void)
+{
+    straight();
+    words[0] = REPEAT(2);
+    words[1] = OP(5, 0);
+    words[n - 2] = REPEAT(0);
+    words[n - 1] = CALL(0);
+}
+
+/* A REPEAT that jumps onto itself. */
+static void tight(void)
+{
+    words[0] = OP(3, 65535);
+    words[1] = REPEAT(1);
+    words[2] = GOTO(0);
+}
+
+/* A line of the table: who works, on what, with how much lent, and the number of words or steps that share the time. A line with
+   `fewer` does the work of the line before it on fewer words, and shows how the time grows. */
+struct line {
+    const char *name;
+    void (*ours)(void), (*theirs)(void), (*fill)(void);
+    size_t n, room;
+    double count;
+    int fewer;
+    double our_best, their_best;
+};
+
+#define READ(family, fill) { "read " family, our_reading, their_reading, fill, WORDS, 0, WORDS, 0, 1e18, 1e18 }
+#define CHECK(family, fill) \
+    { "check " family, our_check, their_check, fill, WORDS, WORDS, WORDS, 0, 1e18, 1e18 }, \
+    { "check-growth " family, our_check, their_check, fill, FEWER, FEWER, FEWER, 1, 1e18, 1e18 }
+#define RUN(family, fill, n) { "run " family, our_run, their_run, fill, n, STEPS, STEPS, 0, 1e18, 1e18 }
+
+static struct line lines[] = {
+    READ("plays", straight),
+    READ("mixed", mixed),
+    CHECK("straight", straight),
+    CHECK("backward", backward),
+    CHECK("nests", nests),
+    CHECK("everything", everything),
+    RUN("plays", straight, WORDS),
+    RUN("tight", tight, 3),
+    RUN("calls", nests, 2 * NEST + 2),
+};
+enum { LINES = sizeof lines / sizeof *lines };
+
+static void clear(uint64_t *numbers, size_t count)
+{
+    for (size_t i = 0; i < count; i++)
+        numbers[i] = 0;
+}
+
+static int same(const uint64_t *a, const uint64_t *b, size_t count)
+{
+    for (size_t i = 0; i < count; i++)
+        if (a[i] != b[i])
+            return 0;
+    return 1;
+}
+
+static int agree(void)
+{
+    return ours.number == theirs.number && same(ours.place, theirs.place, 1) && same(ours.fields, theirs.fields, 8) &&
+           same(ours.answer, theirs.answer, 54) && same(ours.lent, theirs.lent, room);
+}
+
+static double once(struct answer *answer, void (*work)(void))
+{
+    answer->number = 0;
+    clear(answer->place, 1);
+    clear(answer->fields, 8);
+    clear(answer->answer, 54);
+    clear(answer->lent, room);
+    double start = now();
+    work();
+    return now() - start;
+}
+
+static void measure(struct line *l)
+{
+    n = l->n;
+    room = l->room;
+    l->fill();
+    for (int k = 0; k < TIMES; k++) {
+        double a = once(&ours, l->ours), b = once(&theirs, l->theirs);
+        l->our_best = a < l->our_best ? a : l->our_best;
+        l->their_best = b < l->their_best ? b : l->their_best;
+    }
+    if (!agree() && !failed++)
+        printf("FAIL %s: the answers differ\n", l->name);
+}
+
+static void show(const struct line *l)
+{
+    double ours = l->our_best / l->count, theirs = l->their_best / l->count;
+    if (l->fewer) {
+        ours = l[-1].our_best / l->our_best;
+        theirs = l[-1].count / l->count;
+    }
+    printf("%s\t%.1f\t%.1f\t%.2f\n", l->name, ours, theirs, ours / theirs);
+}
+
+/* The rounds lie apart in time, so that a slow moment of the machine does not fall on one line alone. */
+int main(void)
+{
+    for (int round = 0; round < ROUNDS; round++)
+        for (int i = 0; i < LINES; i++)
+            measure(&lines[i]);
+    for (int i = 0; i < LINES; i++)
+        show(&lines[i]);
+    return failed != 0;
+}
