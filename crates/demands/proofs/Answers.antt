@@ -2,7 +2,7 @@
 -- Assumes nothing.
 use mathlib.Core.Path.{sym, _∙_}
 use Rattle.verdict.proofs.Unique as unique
-use Rattle.demands.specs.Answers.{OneEqual, OneRead, OneWrite, OneRun, OneCheck, OneStep, OneDispatch, OneWalk, OneJudge}
+use Rattle.demands.specs.Answers.{OneEqual, OneRead, OneWrite, OneRun, OneCheck, OneList, OneStep, OneDispatch, OneWalk, OneJudge}
 
 pub one-answer-equation : OneEqual
 one-answer-equation A d r r′ p q = p ∙ sym q
@@ -23,6 +23,12 @@ pub one-answer-check : OneCheck
 one-answer-check wave words marks r r′ p q =
     let o = unique.one-answer-check wave words marks p q in
     λ i. (o .0 i, o .1 i)
+
+pub one-answer-list : OneList
+one-answer-list text before r r′ p q =
+    let n = p .size ∙ sym (q .size) in
+    let o = p .out ∙ sym (q .out) in
+    λ i. (n i, o i)
 
 pub one-answer-step : OneStep
 one-answer-step e s before r r′ p q =

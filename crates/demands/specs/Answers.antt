@@ -19,6 +19,7 @@ use Rattle.walk.specs.Marks.{Marked}
 use Rattle.verdict.specs.Flow.{FlowIs}
 use Rattle.verdict.specs.Check.{CheckIs}
 use Rattle.verdict.specs.declared.Verdict.{Verdict}
+use Rattle.listing.specs.Listing.{Listed}
 
 -- two answers that meet a contract are equal
 abbrev pub One : (A : Type 0) → (A → Type 0) → Type 0
@@ -41,6 +42,10 @@ OneRun = (budget : ℕ) (e : Fixed) (before : List ℕ) → One (Answer × List 
 -- the verdict, and the marks
 abbrev pub OneCheck : Type 0
 OneCheck = (wave : ℕ) (words marks : List ℕ) → One (Verdict × List ℕ) (λ r. CheckIs wave words marks (r .0) (r .1))
+
+-- the length of the listing, and the buffer
+abbrev pub OneList : Type 0
+OneList = (text before : List ℕ) → One (ℕ × List ℕ) (λ r. Listed text before (r .1) (r .0))
 
 -- what other crates of ours call: the step, with the arrays and the trace lent to it
 abbrev pub OneStep : Type 0
