@@ -1,6 +1,6 @@
 -- Laws of the instruction's definitions, for its own functions and for those who read and write words.
 -- Assumes nothing.
-use mathlib.Core.Path.{_≡_, sym, ap}
+use mathlib.Core.Path.{_≡_, refl, sym, ap, _∙_}
 use mathlib.Core.Bool.{_&&_}
 use mathlib.Core.List.{List, [], _∷_}
 use Prim.Native.Nat.{ℕ, zero, suc, _≤_, zero-le}
@@ -8,9 +8,10 @@ use lib.Arith.{lt-of-le-ne}
 use lib.Dec.{eqb}
 use lib.ListN.{List·getD-eq-default}
 use borrow.Author.Tests.{eq-eqb, ne-eqb}
-use Rattle.instruction.specs.Bits.{laid, laidOnto, allFit}
+use Rattle.instruction.specs.Bits.{held, laid, laidOnto, allFit}
 use Rattle.instruction.specs.Table.{opCode, engineSelect, writeFlag, payloadOf, codeOf, noopWord, valuesOf, bodies, bodyOf}
-use Rattle.instruction.specs.Word.{valuesIn, wordOf, bodyFits, fitsOf}
+use Rattle.instruction.specs.Form.{bodyForm, formOf}
+use Rattle.instruction.specs.Word.{codeIn, spelledBy, valuesIn, wordOf, bodyFits, fitsOf}
 use Rattle.instruction.specs.declared.Instruction.{Instruction}
 use Rattle.instruction.specs.declared.Body.the-variants.{Noop}
 
@@ -49,3 +50,12 @@ pub word-other : (i : Instruction) → (codeOf (i .body) ≡ 15 → ⊥)
     → wordOf i ≡ laidOnto (laid opCode (codeOf (i .body))) (engineSelect ∷ writeFlag ∷ payloadOf (codeOf (i .body))) (i .engine ∷ i .write ∷ valuesOf (i .body))
 unfolding wordOf
 word-other i h = simp (ne-eqb _ _ h)
+
+-- ---- the form of what a word spells, by its code
+
+pub form-at : (w : ℕ) {n k : ℕ} → n ≡ codeIn w → n ≡ k → bodyForm (held w writeFlag) (bodyOf k (valuesIn k w)) ≡ formOf (spelledBy w)
+unfolding formOf spelledBy
+form-at w e p = ap (λ (c : ℕ). bodyForm (held w writeFlag) (bodyOf c (valuesIn c w))) (sym p ∙ e)
+
+pub form-past : (w : ℕ) {n : ℕ} → n ≡ codeIn w → NoneBelow 13 n → 0 ≡ formOf (spelledBy w)
+form-past w {n = n} e h = ap (bodyForm (held w writeFlag)) (sym (body-past (valuesIn n w) h)) ∙ form-at w e refl

@@ -3,9 +3,9 @@
 ghost use mathlib.Core.Path.{_≡_};
 ghost use mathlib.Core.List.{[], _∷_};
 ghost use Prim.Native.Nat.{_+_, _≤_, _^_};
-ghost use Rattle.instruction.specs.Bits.{span, held, heldIn, laid, laidOnto, allFit};
+ghost use Rattle.instruction.specs.Bits.{_gives_else_, span, held, heldIn, laid, laidOnto, allFit};
 ghost use Rattle.instruction.specs.Table.{opCode, engineSelect, writeFlag, engineOp, target, repeatCount, wholePayload, payloadOf, codeOf, valuesOf, waveformOf, markerOf, comparisonOf, modulatorOf, bodyOf};
-ghost use Rattle.instruction.specs.Form.{bodyForm, formOf};
+ghost use Rattle.instruction.specs.Form.{short, bodyForm, formOf};
 ghost use Rattle.instruction.specs.Word.{codeIn, valuesIn, spelledBy, wordOf, bodyFits, fitsOf};
 
 // ---- Units: samples, quad-samples and word addresses are counted apart.
@@ -26,6 +26,16 @@ impl QuadSamples {
 
     // A waveform is prefetched from a multiple of this.
     pub const PREFETCHED: u64 = 16384;
+
+    // 16 or 0, of the count of a play.
+    fn play_form(count: u64) -> u64
+        ensures { λ r. ⌜ r ≡ (short count gives 16 else 0) ⌝ }
+    {
+        if count < QuadSamples::SHORTEST {
+            return Refusal::TOO_SHORT;
+        }
+        0
+    }
 }
 
 pub struct WordAddress(pub u64);
@@ -171,15 +181,15 @@ impl WaveformFields {
         let ta = self.ta;
         let count = self.count.0;
         let address = self.address.0;
+        if op == EngineOp::PLAY {
+            return QuadSamples::play_form(count);
+        }
         let awaits = (op == EngineOp::WAIT_TRIGGER) | (op == EngineOp::WAIT_SYNC);
         let prefetches = op == EngineOp::PREFETCH;
         if awaits & ((ta != 0) | (count != 0) | (address != 0))
             | prefetches & ((ta != 0) | (count != 0))
         {
             return Refusal::USELESS_FIELD;
-        }
-        if (op == EngineOp::PLAY) & (count < QuadSamples::SHORTEST) {
-            return Refusal::TOO_SHORT;
         }
         if prefetches & (address % QuadSamples::PREFETCHED != 0) {
             return Refusal::ASKEW;
@@ -559,6 +569,28 @@ impl Instruction {
             return (engine == 0) & (write == 0);
         }
         Instruction::header_fits(engine, write) & body.fits()
+    }
+
+    // The form number of the instruction that the fields of a word spell.
+    pub fn form_in(word: u64) -> u64
+        ensures { λ r. ⌜ r ≡ formOf (spelledBy word) ⌝ }
+    {
+        match Instruction::code_in(word) {
+            Body::WAVEFORM => WaveformFields::spelled_by(word).form(),
+            Body::MARKER => MarkerFields::spelled_by(word).form(),
+            Body::WAIT => EngineOp::wait_form(Instruction::write_in(word)),
+            Body::LOAD_REPEAT => 0,
+            Body::REPEAT => 0,
+            Body::CMP => 0,
+            Body::GOTO => 0,
+            Body::CALL => 0,
+            Body::RETURN => 0,
+            Body::SYNC => EngineOp::wait_form(Instruction::write_in(word)),
+            Body::MODULATOR => ModulatorFields::spelled_by(word).form(),
+            Body::LOAD_CMP => 0,
+            Body::PREFETCH => WordAddress::spelled_by(word).prefetch_form(),
+            _ => 0,
+        }
     }
 
     // The form number 13 to 19, or 0.

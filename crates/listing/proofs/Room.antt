@@ -12,7 +12,7 @@ use lib.Dec.{leb, lit<, lit≤}
 use lib.Pow.{pow-pos, pow-mono}
 use lib.ListN.{length, getD, length-append}
 use Rattle.instruction.specs.Bits.{pick, _gives_else_, held}
-use Rattle.instruction.specs.Table.{opCode, engineSelect, writeFlag, payloadOf, codeOf, isIgnored, noopWord, valuesOf, bodies, bodyOf}
+use Rattle.instruction.specs.Table.{engineSelect, writeFlag, payloadOf, codeOf, isIgnored, noopWord, valuesOf, bodies, bodyOf}
 use Rattle.instruction.specs.Form.{unflagged, noSuchOp, useless, tooShort, askew, wrongNco, widePhase, bodyForm, formOf}
 use Rattle.instruction.specs.Word.{codeIn, valuesIn, spelledBy}
 use Rattle.instruction.specs.declared.Field.{Field}
@@ -22,7 +22,7 @@ use Rattle.instruction.specs.declared.Body.the-variants.{Waveform, Marker, Wait
 use Rattle.reader.specs.Reading.{noSuchCode, hasUnnamed, notItsOp, formIn, readingOf}
 use Rattle.reader.specs.declared.Reading.{Reading}
 use Rattle.reader.proofs.Laws.{reads-noop, reads, refuses}
-use Rattle.reader.proofs.Masks.{none-below}
+use Rattle.reader.proofs.Masks.{none-below, code-small}
 use Rattle.listing.specs.Text.{number, letters, decimal, restText, lineText, textOf}
 use Rattle.listing.specs.Listing.{nameOf, showsNone, shownOf, entriesOf, entriesIn, wordAt, linesFrom, wordBytes, listedWords, listingOf, lineSize, pageSize}
 use Rattle.listing.proofs.Decimal.{decimal-short}
@@ -61,9 +61,6 @@ all-narrow code l i = read (isIgnored code) (narrow (payloadOf code)) i (none-be
     read a true p q = refl
     read true false p q = sym p
     read false false p q = sym q
-
-code-small : (w : ℕ) → codeIn w < 16
-code-small w = mod-lt (w / 2 ^ opCode .low) (lit< tt)
 
 values-small : (w k : ℕ) → getD (valuesIn (codeIn w) w) k 0 < 2 ^ widest
 values-small w k = by (isIgnored (codeIn w)) refl

@@ -2,7 +2,6 @@
 -- Assumes nothing.
 use mathlib.Core.Path.{_≡_, refl, sym, ap, ap₂, _∙_}
 use mathlib.Core.Bool.{Bool, true, false, not, _||_, _&&_}
-use mathlib.Core.List.{List, [], _∷_}
 use Prim.Native.Nat.{ℕ, zero, suc, _+_, _*_, _/_, _%_, _^_, _<_, min}
 use native.Mathlib.Nat.{div-one, div-add-mod', div-eq-of-lt, lt-of-lt-of-le, mod-lt}
 use native.Mathlib.Numerals.{one-add}
@@ -16,6 +15,7 @@ use lib.ListN.{getD}
 use lib.Pow.{shr-shr, pow-mono}
 use Rattle.instruction.specs.Bits.{isSet}
 use Rattle.instruction.specs.Word.{codeIn}
+use Rattle.reader.specs.Masks.{namedBits}
 use Rattle.reader.specs.Reading.{someBelow, isNamed, hasUnnamed}
 
 -- ---- what holds of some number below n
@@ -39,26 +39,6 @@ all-below (suc n) test h = rw (h n (omega arith)) (all-below n test (λ k l. h k
 
 -- ---- the table
 
-unfoldable pub masks : List ℕ
-masks =
-    0xFD00_FFFF_FFFF_FFFF
-    ∷ 0xFD00_C01F_FFFF_FFFF
-    ∷ 0xFD00_C000_0000_0000
-    ∷ 0xFD00_0000_0000_FFFF
-    ∷ 0xFD00_0000_03FF_FFFF
-    ∷ 0xFD00_0000_0000_03FF
-    ∷ 0xFD00_0000_03FF_FFFF
-    ∷ 0xFD00_0000_03FF_FFFF
-    ∷ 0xFDFF_FFFF_FFFF_FFFF
-    ∷ 0xFD00_C000_0000_0000
-    ∷ 0xFD00_EF00_FFFF_FFFF
-    ∷ 0xFDFF_FFFF_FFFF_FFFF
-    ∷ 0xFD00_0000_03FF_FFFF
-    ∷ 0xFD00_0000_0000_0000
-    ∷ 0xFD00_0000_0000_0000
-    ∷ 0xFD00_0000_0000_0000
-    ∷ []
-
 abbrev differ : Bool → Bool → Bool
 differ true b = not b
 differ false b = b
@@ -69,16 +49,16 @@ same true false e = e
 same false b e = sym e
 
 -- one computed test over the whole table: no op code, and no bit, at which mask and fields differ
-no-difference : someBelow 16 (λ code. someBelow 64 (λ k. differ (isSet k (getD masks code 0)) (isNamed code k))) ≡ false
-unfolding masks
+no-difference : someBelow 16 (λ code. someBelow 64 (λ k. differ (isSet k (getD namedBits code 0)) (isNamed code k))) ≡ false
+unfolding namedBits
 no-difference = refl
 
 -- a mask has exactly the bits that the fields of its op code name
-pub table-exact : (code k : ℕ) → code < 16 → k < 64 → isSet k (getD masks code 0) ≡ isNamed code k
+pub table-exact : (code k : ℕ) → code < 16 → k < 64 → isSet k (getD namedBits code 0) ≡ isNamed code k
 table-exact code k hc hk =
-    same (isSet k (getD masks code 0)) (isNamed code k)
-    (none-below 64 (λ j. differ (isSet j (getD masks code 0)) (isNamed code j))
-    (none-below 16 (λ c. someBelow 64 (λ j. differ (isSet j (getD masks c 0)) (isNamed c j))) no-difference code hc)
+    same (isSet k (getD namedBits code 0)) (isNamed code k)
+    (none-below 64 (λ j. differ (isSet j (getD namedBits code 0)) (isNamed code j))
+    (none-below 16 (λ c. someBelow 64 (λ j. differ (isSet j (getD namedBits c 0)) (isNamed c j))) no-difference code hc)
     k hk)
 
 -- ---- single bits of what a mask leaves
@@ -122,7 +102,7 @@ clear k w e = rw e
 -- ---- number 11, by the mask
 
 abbrev maskIn : ℕ → ℕ
-maskIn w = getD masks (codeIn w) 0
+maskIn w = getD namedBits (codeIn w) 0
 
 -- bit k is set and not named
 abbrev isStray : ℕ → ℕ → Bool
@@ -137,7 +117,7 @@ unnamed-is-unset true true p q = p
 unnamed-is-unset true false p q = q
 unnamed-is-unset false b p q = refl
 
-code-small : (w : ℕ) → codeIn w < 16
+pub code-small : (w : ℕ) → codeIn w < 16
 code-small w = omega arith
 
 passes : (w : ℕ) → bitAnd w (maskIn w) ≡ w → (k : ℕ) → k < 64 → (b : Bool) → isNamed (codeIn w) k ≡ b → isStray w k ≡ false

@@ -1,6 +1,9 @@
 // Reading: every 64-bit word is one instruction or has one form number.
 // The word is judged by all its bits, never by its header alone.
 ghost use mathlib.Core.Path.{_≡_};
+ghost use Prim.Native.Nat.{_<_};
+ghost use lib.ListN.{getD};
+ghost use Rattle.reader.specs.Masks.{namedBits};
 ghost use Rattle.reader.specs.Reading.{refusalOf, hasUnnamed, notItsOp, formIn, readingOf};
 use instruction::Body;
 use instruction::EngineOp;
@@ -44,11 +47,34 @@ const NAMED_BITS: [u64; 16] = [
     0xFD00_0000_0000_0000,
 ];
 
+// The table's entry of an op code; by a match, which is compiled to a constant table.
+fn named_bits(code: u64) -> u64
+    ensures { λ r. ⌜ (code < 16 → r ≡ getD namedBits code 0) ⌝ }
+{
+    match code {
+        0 => NAMED_BITS[0],
+        1 => NAMED_BITS[1],
+        2 => NAMED_BITS[2],
+        3 => NAMED_BITS[3],
+        4 => NAMED_BITS[4],
+        5 => NAMED_BITS[5],
+        6 => NAMED_BITS[6],
+        7 => NAMED_BITS[7],
+        8 => NAMED_BITS[8],
+        9 => NAMED_BITS[9],
+        10 => NAMED_BITS[10],
+        11 => NAMED_BITS[11],
+        12 => NAMED_BITS[12],
+        13 => NAMED_BITS[13],
+        14 => NAMED_BITS[14],
+        _ => NAMED_BITS[15],
+    }
+}
+
 fn has_unnamed(word: u64) -> bool
     ensures { λ r. ⌜ r ≡ hasUnnamed word ⌝ }
 {
-    let code = Instruction::code_in(word) as usize;
-    word & NAMED_BITS[code] != word
+    word & named_bits(Instruction::code_in(word)) != word
 }
 
 fn not_its_op(word: u64) -> bool
@@ -73,7 +99,7 @@ fn form_in(word: u64) -> u64
     if not_its_op(word) {
         return Refusal::NOT_ITS_OP;
     }
-    Instruction::spelled_by(word).form()
+    Instruction::form_in(word)
 }
 
 pub fn read(word: u64) -> Reading

@@ -1,12 +1,12 @@
 -- Laws of the sequence's definitions.
 -- Assumes nothing.
 use mathlib.Core.Path.{_≡_, refl, sym, ap, _∙_}
-use mathlib.Core.Bool.{Bool, true, false, not}
+use mathlib.Core.Bool.{Bool, true, false, not, _||_, _&&_}
 use Prim.Native.Nat.{ℕ, _+_, _-_, _≤_, _<_}
 use native.Mathlib.Decide.{decLt}
 use native.Mathlib.Omega.{arith}
-use borrow.Author.Tests.{lt-ltb, le-ltb, le-leb, lt-leb}
-use lib.Dec.{ltb, leb}
+use borrow.Author.Tests.{eqb-true, lt-ltb, le-ltb, le-leb, lt-leb}
+use lib.Dec.{ltb, eqb, leb}
 use Rattle.instruction.specs.declared.WaveformFields.{WaveformFields}
 use Rattle.instruction.specs.declared.MarkerFields.{MarkerFields}
 use Rattle.instruction.specs.declared.ModulatorFields.{ModulatorFields}
@@ -51,3 +51,28 @@ placed-words wave n b e = by (onEngine (outOfWave wave) (λ f. false) (λ f. fal
     by true q z = absurd (omega arith)
     by false true z = absurd (omega arith)
     by false false z = refl
+
+-- ---- 20, by whether the word is a plain play
+
+plain : (p q r x y : Bool) → (p && q) ≡ true → r ≡ false → x ≡ ((p && q && x) || ((p && not q || r) && y))
+plain true true r true y e z = refl
+plain true true r false y e z = rw z refl
+plain true false r x y e z = let w : _≡_ {A = ℕ} 0 1 = cc in absurd (omega arith)
+plain false q r x y e z = let w : _≡_ {A = ℕ} 0 1 = cc in absurd (omega arith)
+
+other : (p q r x y : Bool) → (p && q) ≡ false → ((p || r) && y) ≡ ((p && q && x) || ((p && not q || r) && y))
+other true true r x y e = let w : _≡_ {A = ℕ} 0 1 = cc in absurd (omega arith)
+other true false r x y e = refl
+other false q r x y e = refl
+
+first-of : (p q : Bool) → (p && q) ≡ true → p ≡ true
+first-of true q e = refl
+first-of false q e = e
+
+pub wave-plain : (wave : ℕ) (f : WaveformFields) → (eqb (f .op) 0 && eqb (f .ta) 0) ≡ true → not (leb (f .address .0 + f .count .0) wave) ≡ outOfWave wave f
+wave-plain wave f e =
+    plain (eqb (f .op) 0) (eqb (f .ta) 0) (eqb (f .op) 3) (not (leb (f .address .0 + f .count .0) wave)) (not (ltb (f .address .0) wave)) e
+    (ap (λ (k : ℕ). eqb k 3) (eqb-true (f .op) 0 (first-of (eqb (f .op) 0) (eqb (f .ta) 0) e)))
+
+pub wave-other : (wave : ℕ) (f : WaveformFields) → (eqb (f .op) 0 && eqb (f .ta) 0) ≡ false → ((eqb (f .op) 0 || eqb (f .op) 3) && not (ltb (f .address .0) wave)) ≡ outOfWave wave f
+wave-other wave f e = other (eqb (f .op) 0) (eqb (f .ta) 0) (eqb (f .op) 3) (not (leb (f .address .0 + f .count .0) wave)) (not (ltb (f .address .0) wave)) e

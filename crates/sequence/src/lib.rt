@@ -103,10 +103,10 @@ impl Sequence {
         let op = f.op;
         let ta = f.ta;
         let address = f.address.0;
-        let plays = op == EngineOp::PLAY;
-        let past = Sequence::reaches_past(wave, address, f.count.0);
-        plays & (ta == 0) & past
-            | (plays & (ta != 0) | (op == EngineOp::PREFETCH)) & !(address < wave)
+        if (op == EngineOp::PLAY) & (ta == 0) {
+            return Sequence::reaches_past(wave, address, f.count.0);
+        }
+        ((op == EngineOp::PLAY) | (op == EngineOp::PREFETCH)) & !(address < wave)
     }
 
     fn waveform_placing(wave: u64, f: WaveformFields) -> u64

@@ -1,11 +1,12 @@
 -- The mask of the op code leaves the whole word just where no bit is set that is not named.
-use mathlib.Core.Path.{ap, _∙_}
+use mathlib.Core.Path.{sym, ap, subst, _∙_}
 use mathlib.Core.Bool.{not}
-use Prim.Native.Nat.{ℕ}
+use Prim.Native.Nat.{ℕ, _<_}
 use lib.Bits.{bitAnd}
 use lib.Dec.{eqb}
 use lib.ListN.{getD}
-use Rattle.reader.proofs.Masks.{masks, unnamed-by-mask}
+use Rattle.reader.specs.Masks.{namedBits}
+use Rattle.reader.proofs.Masks.{code-small, unnamed-by-mask}
 use borrow.Author.Needs.{needs}
 use Rattle.reader.proofs.has_unnamed.Statement.{statement}
 use Rattle.reader.proofs.has_unnamed.Tie as tie
@@ -13,17 +14,11 @@ use Rattle.reader.proofs.has_unnamed.Tie as tie
 code-in-requires : tie.Need-code-in-requires
 code-in-requires c κs = search needs
 
-mul-result : tie.Need-mul-result
-mul-result c = search needs
-
-array-read-result : tie.Need-array-read-result
-array-read-result c = search needs
+named-bits-requires : tie.Need-named-bits-requires
+named-bits-requires c κs = search needs
 
 returns : tie.Need-returns
-unfolding masks
-returns c =
-    let w = c .before .args .word in
-    ap (λ (k : ℕ). not (eqb (bitAnd w (getD masks k 0)) w)) (c .code-in .ensures) ∙ unnamed-by-mask w (search needs)
+returns c = ap (λ (m : ℕ). not (eqb (bitAnd (c .before .before .args .word) m) (c .before .before .args .word))) (c .named-bits .ensures (subst (λ (k : ℕ). k < 16) (sym (c .before .code-in .ensures)) (code-small (c .before .before .args .word))) ∙ ap (λ (k : ℕ). getD namedBits k 0) (c .before .code-in .ensures)) ∙ unnamed-by-mask (c .before .before .args .word) (search needs)
 
 pub has-unnamed-spec : {M : Type 1} → statement M
-has-unnamed-spec = tie.close (tie.spec code-in-requires mul-result array-read-result returns)
+has-unnamed-spec = tie.close (tie.spec code-in-requires named-bits-requires returns)
