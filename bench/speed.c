@@ -4,7 +4,7 @@
 #include "../second/second.h"
 #include "../tests/sequences.h"
 
-enum { WORDS = 65536, FEWER = 4096, STEPS = 1000000, WAVE = 16, NEST = 16, ROUNDS = 12, TIMES = 4 };
+enum { WORDS = 65536, FEWER = 4096, STEPS = 1000000, LISTED = 2048, WAVE = 16, NEST = 16, ROUNDS = 12, TIMES = 4 };
 
 #define PLAY OP(0, HIGH | UINT64_C(2) << 24)
 #define REPEAT(to) OP(4, (uint64_t)(to))
@@ -26,6 +26,7 @@ static double now(void)
 
 /* What both are given, and what each gives back; `lent` is the marks or the trace, and `room` says how much of it is lent. */
 static uint64_t words[WORDS];
+static uint8_t raw[8 * LISTED];
 static size_t n, room;
 struct answer {
     uint64_t number, place[1], fields[8], answer[54], lent[STEPS];
@@ -49,6 +50,9 @@ static void their_check(void) { theirs.number = second_check(words, n, WAVE, the
 static void our_run(void) { ours.number = aps2_run(words, n, WAVE, NULL, 0, 0, ours.lent, room, STEPS, ours.answer); }
 static void their_run(void) { theirs.number = second_run(words, n, WAVE, NULL, 0, 0, theirs.lent, room, STEPS, theirs.answer); }
 
+static void our_listing(void) { ours.number = aps2_listing(raw, 8 * n, (uint8_t *)ours.lent, 8 * room); }
+static void their_listing(void) { theirs.number = second_listing(raw, 8 * n, (uint8_t *)theirs.lent, 8 * room); }
+
 /* Plays, and a GOTO back to the first. */
 static void straight(void)
 {
@@ -62,6 +66,25 @@ static void mixed(void)
 {
     seed = 1;
     any_sequence(words, n, WAVE);
+}
+
+/* The words as bytes, most significant first. */
+static void as_bytes(void)
+{
+    for (size_t i = 0; i < 8 * n; i++)
+        raw[i] = (uint8_t)(words[i / 8] >> (56 - 8 * (i % 8)));
+}
+
+static void listed_plays(void)
+{
+    straight();
+    as_bytes();
+}
+
+static void listed_mixed(void)
+{
+    mixed();
+    as_bytes();
 }
 
 /* From the last address down to the first, one GOTO after another. */
@@ -121,6 +144,8 @@ struct line {
     { "check-growth " family, our_check, their_check, fill, FEWER, FEWER, FEWER, 1, 1e18, 1e18 }
 #define RUN(family, fill, n) { "run " family, our_run, their_run, fill, n, STEPS, STEPS, 0, 1e18, 1e18 }
 
+#define LIST(family, fill) { "listing " family, our_listing, their_listing, fill, LISTED, 8 * LISTED, LISTED, 0, 1e18, 1e18 }
+
 static struct line lines[] = {
     READ("plays", straight),
     READ("mixed", mixed),
@@ -131,6 +156,8 @@ static struct line lines[] = {
     RUN("plays", straight, WORDS),
     RUN("tight", tight, 3),
     RUN("calls", nests, 2 * NEST + 2),
+    LIST("plays", listed_plays),
+    LIST("mixed", listed_mixed),
 };
 enum { LINES = sizeof lines / sizeof *lines };
 

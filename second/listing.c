@@ -1,12 +1,8 @@
-/* The listing: document 01, "The listing program". It is laid out on a page that has room for the longest one, and copied where it fits. */
+/* The listing: document 01, "The listing program". It is laid out on a page that has room for the longest one, and copied where it fits.
+   Each function writes from a place on and gives back the place behind what it wrote. */
 #include "word.h"
 
 enum { WORDS = 2048, LINE = 64, PAGE = LINE * (WORDS + 1) };
-
-struct page {
-    size_t n;
-    uint8_t text[PAGE];
-};
 
 static const char *const names[16] = {
     "WAVEFORM", "MARKER", "WAIT", "LOAD_REPEAT", "REPEAT", "CMP", "GOTO", "CALL", "RETURN", "SYNC", "MODULATOR", "LOAD_CMP", "PREFETCH",
@@ -14,56 +10,56 @@ static const char *const names[16] = {
 };
 static const uint8_t shown[16] = { 4, 4, 0, 1, 1, 2, 1, 1, 0, 0, 3, 0, 1 };
 
-static inline void letter(struct page *p, char c) { p->text[p->n++] = (uint8_t)c; }
-
-static inline void text(struct page *p, const char *s)
+static inline uint8_t *text(uint8_t *to, const char *s)
 {
     while (*s)
-        letter(p, *s++);
+        *to++ = (uint8_t)*s++;
+    return to;
 }
 
-static inline void number(struct page *p, uint64_t v)
+static inline uint8_t *number(uint8_t *to, uint64_t v)
 {
     uint8_t digits[20];
     int k = 20;
-    do
+    while (v >= 10) {
         digits[--k] = (uint8_t)('0' + v % 10);
-    while ((v /= 10));
+        v /= 10;
+    }
+    *to++ = (uint8_t)('0' + v);
     while (k < 20)
-        p->text[p->n++] = digits[k++];
+        *to++ = digits[k++];
+    return to;
 }
 
-static inline void tabbed(struct page *p, uint64_t v)
+static inline uint8_t *tabbed(uint8_t *to, uint64_t v)
 {
-    letter(p, '\t');
-    number(p, v);
+    *to++ = '\t';
+    return number(to, v);
 }
 
-static void line(struct page *p, uint64_t address, uint64_t word)
+static uint8_t *line(uint8_t *to, uint64_t address, uint64_t word)
 {
     uint64_t f[8], refused = second_read(word, f);
-    number(p, address);
-    letter(p, '\t');
+    to = number(to, address);
+    *to++ = '\t';
     if (refused) {
-        text(p, "BAD");
-        tabbed(p, refused);
+        to = tabbed(text(to, "BAD"), refused);
     } else {
-        text(p, names[f[0]]);
-        if (f[0] != NOOP) {
-            tabbed(p, f[1]);
-            tabbed(p, f[2]);
-        }
+        to = text(to, names[f[0]]);
+        if (f[0] != NOOP)
+            to = tabbed(tabbed(to, f[1]), f[2]);
         for (int i = 0; i < shown[f[0]]; i++)
-            tabbed(p, f[3 + i]);
+            to = tabbed(to, f[3 + i]);
     }
-    letter(p, '\n');
+    *to++ = '\n';
+    return to;
 }
 
-static void pair(struct page *p, const char *name, uint64_t v)
+static uint8_t *pair(uint8_t *to, const char *name, uint64_t v)
 {
-    text(p, name);
-    tabbed(p, v);
-    letter(p, '\n');
+    to = tabbed(text(to, name), v);
+    *to++ = '\n';
+    return to;
 }
 
 static uint64_t word_at(const uint8_t *b)
@@ -76,18 +72,18 @@ static uint64_t word_at(const uint8_t *b)
 
 size_t second_listing(const uint8_t *bytes, size_t len, uint8_t *out, size_t out_len)
 {
-    struct page p;
-    p.n = 0;
+    uint8_t page[PAGE], *to = page;
     if (len % 8) {
-        pair(&p, "refused", 8);
+        to = pair(to, "refused", 8);
     } else if (len / 8 > WORDS) {
-        pair(&p, "refused", 9);
+        to = pair(to, "refused", 9);
     } else {
-        pair(&p, "aps2-listing", 1);
+        to = pair(to, "aps2-listing", 1);
         for (size_t a = 0; a < len / 8; a++)
-            line(&p, a, word_at(bytes + 8 * a));
+            to = line(to, a, word_at(bytes + 8 * a));
     }
-    for (size_t i = 0; p.n <= out_len && i < p.n; i++)
-        out[i] = p.text[i];
-    return p.n;
+    size_t n = (size_t)(to - page);
+    for (size_t i = 0; n <= out_len && i < n; i++)
+        out[i] = page[i];
+    return n;
 }
