@@ -1,13 +1,15 @@
 -- Laws of reading: what a word reads as, by its tests.
 -- Assumes nothing.
-use mathlib.Core.Path.{_≡_}
-use mathlib.Core.Bool.{true, false}
+use mathlib.Core.Path.{_≡_, sym, ap, _∙_}
+use mathlib.Core.Bool.{Bool, true, false}
+use native.Mathlib.Decide.{ℕ-discrete}
 use Prim.Native.Nat.{ℕ, _<_, _≤_}
 use borrow.Author.Tests.{eq-eqb, ne-eqb, le-leb, lt-leb}
-use Rattle.instruction.specs.Form.{formOf}
+use Rattle.instruction.specs.Bits.{pick}
+use Rattle.instruction.specs.Form.{numbered, formOf}
 use Rattle.instruction.specs.Table.{noopWord}
 use Rattle.instruction.specs.Word.{codeIn, spelledBy, noop}
-use Rattle.reader.specs.Reading.{hasUnnamed, notItsOp, formIn, readingOf}
+use Rattle.reader.specs.Reading.{hasUnnamed, notItsOp, formIn, instructionIn, readingOf, numberOf}
 use Rattle.reader.specs.declared.Reading.the-variants.{Accepted, Refused}
 
 pub reads-noop : (w : ℕ) → w ≡ noopWord → readingOf w ≡ Accepted noop
@@ -37,3 +39,31 @@ form-12 w h u o = rw (lt-leb 13 (codeIn w) h, u, o)
 pub form-rest : (w : ℕ) → codeIn w < 13 → hasUnnamed w ≡ false → notItsOp w ≡ false → formIn w ≡ formOf (spelledBy w)
 unfolding formIn
 form-rest w h u o = rw (lt-leb 13 (codeIn w) h, u, o)
+
+-- ---- by the number
+
+pub number-noop : (w : ℕ) → w ≡ noopWord → 0 ≡ numberOf (readingOf w)
+number-noop w e = ap numberOf (sym (reads-noop w e))
+
+pub number-form : (w : ℕ) → (w ≡ noopWord → ⊥) → formIn w ≡ numberOf (readingOf w)
+number-form w h = by (ℕ-discrete (formIn w) 0)
+  where
+    by : Dec (formIn w ≡ 0) → formIn w ≡ numberOf (readingOf w)
+    by (yes z) = z ∙ ap numberOf (sym (reads w h z))
+    by (no z) = ap numberOf (sym (refuses w h z))
+
+-- a word whose number is 0 reads as what it spells, and any other as its number
+module _ (w : ℕ) where
+  pub reads-instruction : numberOf (readingOf w) ≡ 0 → Accepted (instructionIn w) ≡ readingOf w
+  reads-instruction z = by (ℕ-discrete w noopWord)
+    where
+      by : Dec (w ≡ noopWord) → Accepted (instructionIn w) ≡ readingOf w
+      by (yes e) = ap (λ (b : Bool). Accepted (pick b noop (spelledBy w))) (eq-eqb w noopWord e) ∙ sym (reads-noop w e)
+      by (no h) = ap (λ (b : Bool). Accepted (pick b noop (spelledBy w))) (ne-eqb w noopWord h) ∙ sym (reads w h (number-form w h ∙ z))
+
+  pub refuses-number : (numberOf (readingOf w) ≡ 0 → ⊥) → Refused (numbered (numberOf (readingOf w))) ≡ readingOf w
+  refuses-number n = by (ℕ-discrete w noopWord)
+    where
+      by : Dec (w ≡ noopWord) → Refused (numbered (numberOf (readingOf w))) ≡ readingOf w
+      by (yes e) = absurd (n (sym (number-noop w e)))
+      by (no h) = ap (λ (k : ℕ). Refused (numbered k)) (sym (number-form w h)) ∙ sym (refuses w h (λ z. n (sym (number-form w h) ∙ z)))

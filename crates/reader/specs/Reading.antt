@@ -51,6 +51,10 @@ formIn word =
     else notItsOp word gives 12
     else formOf (spelledBy word)
 
+-- what a word spells, with H2: NOOP is "tested before all else"
+abbrev pub instructionIn : ℕ → Instruction
+instructionIn word = pick (eqb word noopWord) noop (spelledBy word)
+
 -- an instruction where the number is 0, and else the refusal with the number
 abbrev pub judged : ℕ → Instruction → Reading
 judged number i = pick (eqb number 0) (Accepted i) (Refused (numbered number))

@@ -4,7 +4,7 @@ ghost use mathlib.Core.Path.{_≡_};
 ghost use Prim.Native.Nat.{_<_};
 ghost use lib.ListN.{getD};
 ghost use Rattle.reader.specs.Masks.{namedBits};
-ghost use Rattle.reader.specs.Reading.{refusalOf, hasUnnamed, notItsOp, formIn, readingOf};
+ghost use Rattle.reader.specs.Reading.{refusalOf, numberOf, hasUnnamed, notItsOp, formIn, instructionIn, readingOf};
 use instruction::Body;
 use instruction::EngineOp;
 use instruction::Instruction;
@@ -102,20 +102,36 @@ fn form_in(word: u64) -> u64
     Instruction::form_in(word)
 }
 
-pub fn read(word: u64) -> Reading
-    ensures { λ r. ⌜ r ≡ readingOf word ⌝ }
+// The form number of a word, or 0.
+pub fn form_number(word: u64) -> u64
+    ensures { λ r. ⌜ r ≡ numberOf (readingOf word) ⌝ }
 {
     if word == Instruction::NOOP {
-        return Reading::Accepted(Instruction {
+        return 0;
+    }
+    form_in(word)
+}
+
+// What a word reads as, if its form number is 0.
+pub fn instruction_in(word: u64) -> Instruction
+    ensures { λ r. ⌜ r ≡ instructionIn word ⌝ }
+{
+    if word == Instruction::NOOP {
+        return Instruction {
             engine: 0,
             write: 0,
             body: Body::Noop,
-        });
+        };
     }
-    let number = form_in(word);
-    if number == 0 {
-        Reading::Accepted(Instruction::spelled_by(word))
-    } else {
-        Reading::Refused(Refusal { number })
+    Instruction::spelled_by(word)
+}
+
+pub fn read(word: u64) -> Reading
+    ensures { λ r. ⌜ r ≡ readingOf word ⌝ }
+{
+    let number = form_number(word);
+    if number != 0 {
+        return Reading::Refused(Refusal { number });
     }
+    Reading::Accepted(instruction_in(word))
 }
