@@ -1,18 +1,19 @@
 -- The laws of marks that grow, and that closed marks are the least set.
 -- Assumes nothing.
-use Prim.Native.Nat.{ℕ, zero, suc, _+_, _*_, _^_, _≤_, _<_}
+use Prim.Native.Nat.{ℕ, zero, suc, _+_, _-_, _*_, _^_, _≤_, _<_}
 use mathlib.Core.Path.{_≡_, refl, sym, subst, _∙_}
 use mathlib.Core.Logic.{⊎-elim}
-use mathlib.Core.Bool.{Bool, true, false, _||_}
+use mathlib.Core.Bool.{Bool, true, false, _&&_}
 use mathlib.Core.List.{List, [], _∷_}
 use native.Mathlib.Nat.{le-refl, le-trans, lt-of-le-of-lt, eq-or-lt-of-le, le-of-suc-le-suc}
 use native.Mathlib.Numerals.{add-one}
 use native.Mathlib.Decide.{ℕ-discrete}
 use native.Mathlib.Omega.{arith}
-use lib.Dec.{lit<}
+use lib.Dec.{lit<, eqb}
+use borrow.Author.Tests.{eqb-true, eqb-false}
 use lib.ListN.{length, getD, set, length-set}
 use lib.Seq.{getD-set-same, getD-set-other}
-use lib.Bits.{bitOr}
+use lib.Bits.{bitOr, or-add-and, and-le-r}
 use Rattle.flow.specs.declared.Move.{Move}
 use Rattle.flow.specs.declared.Move.the-variants.{Other, Compare, Jump, Enter, Leave, Loop}
 use Rattle.flow.specs.Masks.{nextOf, jumpOf, toOf}
@@ -20,7 +21,9 @@ use Rattle.flow.specs.Move.{moveAt}
 use Rattle.flow.specs.Walk.{deepest, On, place, Reached, start}
 use Rattle.flow.proofs.Rules.{Onward, plain-on, cmp-on, goto-on, call-on, return-on, repeat-on, Leaps, goto-to, call-to, repeat-to, Walked, begin, on, over, back, walked, reached}
 use Rattle.flow.proofs.Bits.{or-left, or-right, or-on, zero-off, high-off, on-bare, bare-on, next-on, back-on, jump-on, Came, stepped, returned, on-next, Leapt, leapt, on-jump}
-use Rattle.walk.specs.Marks.{Exact, Sound, Backs, left, Put, out, same, more, Grew, ClosedAt, Turned, Swept, backIn, Returns, Cleared}
+use Rattle.walk.specs.Marks.{Exact, Sound, Backs, left, rest, HoldsAt, Put, same, more, Grew, ClosedAt, Turned, moved, still, Tells, holds, fails, backIn, Returns, Cleared, Part, Visits, VisitDone, TurnIs, ahead, hint, ended, Room, FollowDone, Since, fresh, since, AtHand, OpenIs, closed, first, load}
+use Rattle.walk.specs.declared.Trail.{Trail}
+use Rattle.sequence.specs.Bounds.{wordLimit}
 
 -- ---- what is left to set
 
@@ -64,116 +67,57 @@ sound-set lim ws ms i x l s new a d c h p = go (ℕ-discrete a i)
 
 -- ---- growth
 
-pub grew-refl : (lim : ℕ) (ws : List ℕ) (r : ℕ) (ms : List ℕ) → Grew lim ws r ms ms
-grew-refl lim ws r ms = record { long = refl; less = le-refl (left ms); kept = λ a k p. p; tail = λ a h. refl; sound = λ b s. s }
+pub grew-refl : (lim : ℕ) (ws : List ℕ) (r : ℕ) (ms : List ℕ) → Grew lim ws r ms r ms
+grew-refl lim ws r ms = record { long = refl; less = le-refl (rest ms r); kept = λ a k p. p; tail = λ a h. refl; sound = λ b s. s; backs = λ b s. b }
 
-pub grew-trans : {lim : ℕ} {ws : List ℕ} {r : ℕ} {ms ns os : List ℕ} → Grew lim ws r ms ns → Grew lim ws r ns os → Grew lim ws r ms os
+pub grew-trans : {lim : ℕ} {ws : List ℕ} {r : ℕ} {ms : List ℕ} {q : ℕ} {ns : List ℕ} {p : ℕ} {os : List ℕ} → Grew lim ws r ms q ns → Grew lim ws q ns p os → Grew lim ws r ms p os
 grew-trans g h =
     record {
       long = h .long ∙ g .long;
       less = le-trans (h .less) (g .less);
       kept = λ a k p. h .kept a k (g .kept a k p);
       tail = λ a l. h .tail a l ∙ g .tail a l;
-      sound = λ b s. h .sound b (g .sound b s);
+      sound = λ b s. h .sound (g .backs b s) (g .sound b s);
+      backs = λ b s. h .backs (g .backs b s) (g .sound b s);
     }
 
-grew-put : (lim : ℕ) (ws : List ℕ) (r : ℕ) (ms : List ℕ) (i x : ℕ) {ns : List ℕ} {b : Bool} → Put (length ws) ms i x ns b → length ws ≤ length ms
+grew-put : (lim : ℕ) (ws : List ℕ) (r : ℕ) (ms : List ℕ) (i x : ℕ) {ns : List ℕ} {v : ℕ} → Put (length ws) ms i x ns v → length ws ≤ length ms
     → (Backs lim ws r → Sound lim ws ms → (d : ℕ) (c : Bool) → On (place d c) x → Reached lim ws i d c)
-    → Grew lim ws r ms ns
-grew-put lim ws r ms i x (out _) l new = grew-refl lim ws r ms
-grew-put lim ws r ms i x (same _ _) l new = grew-refl lim ws r ms
+    → Grew lim ws r ms r ns
+grew-put lim ws r ms i x (same _) l new = grew-refl lim ws r ms
 grew-put lim ws r ms i x (more h u f) l new =
+    let e : left (set ms i (bitOr (getD ms i 0) x)) ≤ left ms = left-set ms i (bitOr (getD ms i 0) x) (omega arith) in
     record {
       long = length-set ms i (bitOr (getD ms i 0) x);
-      less = left-set ms i (bitOr (getD ms i 0) x) (omega arith);
+      less = omega arith;
       kept = λ a k p. kept-set ms i x a k (omega arith) p;
       tail = λ a q. getD-set-other ms i a (bitOr (getD ms i 0) x) 0 (λ e. omega arith);
       sound = λ b s. sound-set lim ws ms i x (omega arith) s (new b s);
+      backs = λ b s. b;
     }
 
--- ---- a visit
+-- a bit that was set lowers what is left
+pub put-left : (n : ℕ) (ms : List ℕ) (i x : ℕ) {ns : List ℕ} {v : ℕ} → n ≤ length ms → Put n ms i x ns v → (v ≡ 0 → ⊥) → left ns < left ms
+put-left n ms i x l (same h) z = absurd (z refl)
+put-left n ms i x l (more h u f) z = left-set-lt ms i (bitOr (getD ms i 0) x) (omega arith) u f
 
-pub came-reached : (lim : ℕ) (ws : List ℕ) (r : ℕ) (ms : List ℕ) (a m : ℕ) → a < length ws → ((k : ℕ) → On k m → On k (getD ms a 0)) → Backs lim ws r → Sound lim ws ms
-    → (e : ℕ) (h : Bool) → Came (moveAt ws a) m r e h → Reached lim ws (a + 1) e h
-came-reached lim ws r ms a m l sub b s e h (stepped {d = d} {c = c} p nx) = reached (on (walked (s a d c l (sub (place d c) p))) l nx)
-came-reached lim ws r ms a m l sub b s e h (returned c o p q f) =
-    let w = b (e + 1) q in
-    subst (λ (z : Bool). Reached lim ws (a + 1) e z) (sym f) (reached (back (walked (w .4)) (w .2) (w .3) (walked (s a e c l (sub (place e c) p))) l o))
+-- the address is then below n, and has the mark that was given back
+put-at : (n : ℕ) (ms : List ℕ) (i x : ℕ) {ns : List ℕ} {v : ℕ} → n ≤ length ms → Put n ms i x ns v → (v ≡ 0 → ⊥) → (i < n) × (getD ns i 0 ≡ v)
+put-at n ms i x l (same h) z = absurd (z refl)
+put-at n ms i x l (more h u f) z = (h, getD-set-same ms i (bitOr (getD ms i 0) x) 0 (omega arith))
 
-leapt-reached : (lim : ℕ) (ws : List ℕ) (ms : List ℕ) (a m : ℕ) → a < length ws → ((k : ℕ) → On k m → On k (getD ms a 0)) → Sound lim ws ms
-    → (e : ℕ) (h : Bool) → Leapt lim (moveAt ws a) m e h → Reached lim ws (toOf (moveAt ws a)) e h
-leapt-reached lim ws ms a m l sub s e h (leapt {d = d} {c = c} p j) = reached (over (walked (s a d c l (sub (place d c) p))) l j)
+pub put-less : (n : ℕ) (ms : List ℕ) (i x : ℕ) {ns : List ℕ} {v : ℕ} → Put n ms i x ns v → left ns ≤ left ms
+put-less n ms i x (same h) = le-refl (left ms)
+put-less n ms i x (more h u f) = left-set ms i (bitOr (getD ms i 0) x) (omega arith)
 
-module _ (lim : ℕ) (ws : List ℕ) (r : ℕ) (ms : List ℕ) (a : ℕ) (fit : length ws ≤ length ms) (l : a < length ws) where
-  first : {ns : List ℕ} {b : Bool} → Put (length ws) ms (a + 1) (nextOf (moveAt ws a) (getD ms a 0) r) ns b → Grew lim ws r ms ns
-  first p =
-      grew-put lim ws r ms (a + 1) (nextOf (moveAt ws a) (getD ms a 0) r) p fit
-      (λ b s e h q. came-reached lim ws r ms a (getD ms a 0) l (λ k z. z) b s e h (on-next (moveAt ws a) (getD ms a 0) r e h q))
+-- no bits are held everywhere
+pub held-zero : (n : ℕ) (ms : List ℕ) (i x : ℕ) → x ≡ 0 → HoldsAt n ms i x
+held-zero n ms i x z l = omega (arith, or-add-and (getD ms i 0) x, and-le-r (getD ms i 0) x, z)
 
-  second : {ns os : List ℕ} {b : Bool} → Grew lim ws r ms ns → Put (length ws) ns (toOf (moveAt ws a)) (jumpOf lim (moveAt ws a) (getD ms a 0)) os b → Grew lim ws r ns os
-  second {ns} {os} g p =
-      let e : length ns ≡ length ms = g .long in
-      grew-put lim ws r ns (toOf (moveAt ws a)) (jumpOf lim (moveAt ws a) (getD ms a 0)) p (omega arith)
-      (λ b s e h q. leapt-reached lim ws ns a (getD ms a 0) l (g .kept a) s e h (on-jump lim (moveAt ws a) (getD ms a 0) e h q))
-
-  put-left : (i x : ℕ) {ns : List ℕ} → Put (length ws) ms i x ns true → left ns < left ms
-  put-left i x (more h u f) = left-set-lt ms i (bitOr (getD ms i 0) x) (omega arith) u f
-
--- nothing was put: the marks are the same, and hold the bits
-put-none : (n : ℕ) (ms : List ℕ) (i x : ℕ) {ns : List ℕ} → Put n ms i x ns false → (ns ≡ ms) × (i < n → bitOr (getD ms i 0) x ≡ getD ms i 0)
-put-none n ms i x (out h) = (refl, λ l. absurd (omega arith))
-put-none n ms i x (same h e) = (refl, λ l. e)
-
-pub visit-law : (lim : ℕ) (ws : List ℕ) (r : ℕ) (ms : List ℕ) (a x y t : ℕ) {ns os : List ℕ} {b c : Bool} → length ws ≤ length ms → a < length ws
-    → x ≡ nextOf (moveAt ws a) (getD ms a 0) r → y ≡ jumpOf lim (moveAt ws a) (getD ms a 0) → t ≡ toOf (moveAt ws a)
-    → Put (length ws) ms (a + 1) x ns b → Put (length ws) ns t y os c
-    → Grew lim ws r ms os × Turned lim ws r ms os a (b || c)
-visit-law lim ws r ms a x y t {ns} {os} {b} {c} fit l ex ey et p q = (grew-trans g g′, turned b c p′ q′)
-  where
-    p′ : Put (length ws) ms (a + 1) (nextOf (moveAt ws a) (getD ms a 0) r) ns b
-    p′ = subst (λ (z : ℕ). Put (length ws) ms (a + 1) z ns b) ex p
-
-    q′ : Put (length ws) ns (toOf (moveAt ws a)) (jumpOf lim (moveAt ws a) (getD ms a 0)) os c
-    q′ = subst (λ (z : ℕ). Put (length ws) ns z (jumpOf lim (moveAt ws a) (getD ms a 0)) os c) et (subst (λ (z : ℕ). Put (length ws) ns t z os c) ey q)
-
-    g : Grew lim ws r ms ns
-    g = first lim ws r ms a fit l p′
-
-    g′ : Grew lim ws r ns os
-    g′ = second lim ws r ms a fit l g q′
-
-    fit′ : length ws ≤ length ns
-    fit′ = let e : length ns ≡ length ms = g .long in omega arith
-
-    turned : (b c : Bool) → Put (length ws) ms (a + 1) (nextOf (moveAt ws a) (getD ms a 0) r) ns b
-        → Put (length ws) ns (toOf (moveAt ws a)) (jumpOf lim (moveAt ws a) (getD ms a 0)) os c → Turned lim ws r ms os a (b || c)
-    turned true c u v = lt-of-le-of-lt (g′ .less) (put-left lim ws r ms a fit l (a + 1) (nextOf (moveAt ws a) (getD ms a 0) r) u)
-    turned false true u v =
-        let n = put-none (length ws) ms (a + 1) (nextOf (moveAt ws a) (getD ms a 0) r) u in
-        subst (λ (z : List ℕ). left os < left z) (n .0) (put-left lim ws r ns a fit′ l (toOf (moveAt ws a)) (jumpOf lim (moveAt ws a) (getD ms a 0)) v)
-    turned false false u v =
-        let n = put-none (length ws) ms (a + 1) (nextOf (moveAt ws a) (getD ms a 0) r) u in
-        let k = put-none (length ws) ns (toOf (moveAt ws a)) (jumpOf lim (moveAt ws a) (getD ms a 0)) v in (
-          k .0 ∙ n .0,
-          record {
-            next = n .1;
-            jump = subst (λ (z : List ℕ). toOf (moveAt ws a) < length ws → bitOr (getD z (toOf (moveAt ws a)) 0) (jumpOf lim (moveAt ws a) (getD ms a 0)) ≡ getD z (toOf (moveAt ws a)) 0) (n .0) (k .1);
-          },
-        )
-
--- ---- a sweep
-
-pub swept-more : (lim : ℕ) (ws : List ℕ) (r : ℕ) (ms ns os : List ℕ) (a : ℕ) (b c : Bool) → Grew lim ws r ns os → Swept lim ws r ms ns a b → Turned lim ws r ns os a c
-    → Grew lim ws r ms ns → Swept lim ws r ms os (a + 1) (b || c)
-swept-more lim ws r ms ns os a true c g s t f = lt-of-le-of-lt (g .less) s
-swept-more lim ws r ms ns os a false true g s t f = subst (λ (z : List ℕ). left os < left z) (s .0) t
-swept-more lim ws r ms ns os a false false g s t f = (t .0 ∙ s .0, all)
-  where
-    here : ClosedAt lim ws r ms a
-    here = subst (λ (z : List ℕ). ClosedAt lim ws r z a) (s .0) (t .1)
-
-    all : (k : ℕ) → k < a + 1 → ClosedAt lim ws r ms k
-    all k l = ⊎-elim (λ e. subst (λ (z : ℕ). ClosedAt lim ws r ms z) (sym e) here) (λ h. s .1 k h) (eq-or-lt-of-le (le-of-suc-le-suc (subst (λ (z : ℕ). k < z) (add-one a) l)))
+-- where none was set, nothing was put, and the bits are held
+put-none : (n : ℕ) (ms : List ℕ) (i x : ℕ) {ns : List ℕ} {v : ℕ} → Put n ms i x ns v → v ≡ 0 → (ns ≡ ms) × HoldsAt n ms i x
+put-none n ms i x (same h) z = (refl, h)
+put-none n ms i x (more h u f) z = absurd (omega arith)
 
 -- ---- the depths of RETURN
 
@@ -213,6 +157,135 @@ returns-more ws ms i r g = record { from = from; whole = whole }
 pub backs-of : (lim : ℕ) (ws ms : List ℕ) (r : ℕ) → Sound lim ws ms → Returns ws ms (length ws) r → Backs lim ws r
 backs-of lim ws ms r s g d p = let w = g .from d p in (w .0, w .1, w .2, w .3, s (w .0) d (w .1) (w .2) (w .4))
 
+-- ---- a visit
+
+pub came-reached : (lim : ℕ) (ws : List ℕ) (r : ℕ) (ms : List ℕ) (a m : ℕ) → a < length ws → ((k : ℕ) → On k m → On k (getD ms a 0)) → Backs lim ws r → Sound lim ws ms
+    → (e : ℕ) (h : Bool) → Came (moveAt ws a) m r e h → Reached lim ws (a + 1) e h
+came-reached lim ws r ms a m l sub b s e h (stepped {d = d} {c = c} p nx) = reached (on (walked (s a d c l (sub (place d c) p))) l nx)
+came-reached lim ws r ms a m l sub b s e h (returned c o p q f) =
+    let w = b (e + 1) q in
+    subst (λ (z : Bool). Reached lim ws (a + 1) e z) (sym f) (reached (back (walked (w .4)) (w .2) (w .3) (walked (s a e c l (sub (place e c) p))) l o))
+
+leapt-reached : (lim : ℕ) (ws : List ℕ) (ms : List ℕ) (a m : ℕ) → a < length ws → ((k : ℕ) → On k m → On k (getD ms a 0)) → Sound lim ws ms
+    → (e : ℕ) (h : Bool) → Leapt lim (moveAt ws a) m e h → Reached lim ws (toOf (moveAt ws a)) e h
+leapt-reached lim ws ms a m l sub s e h (leapt {d = d} {c = c} p j) = reached (over (walked (s a d c l (sub (place d c) p))) l j)
+
+-- the depths of a RETURN that is reached
+backs-more : (lim : ℕ) (ws : List ℕ) (r : ℕ) (ms : List ℕ) (a m : ℕ) → a < length ws → Part ms a m → Backs lim ws r → Sound lim ws ms → Backs lim ws (bitOr r (backIn (moveAt ws a) m))
+backs-more lim ws r ms a m l sub b s d p =
+    ⊎-elim
+    (λ q. b d q)
+    (λ q. let w = back-in (moveAt ws a) m d q in (a, w .1 .0, l, w .0, s a d (w .1 .0) l (sub (place d (w .1 .0)) (w .1 .1))))
+    (or-on (2 * d) r (backIn (moveAt ws a) m) p)
+
+pub or-up : (r x : ℕ) → r ≤ bitOr r x
+or-up r x = omega (arith, or-add-and r x, and-le-r r x)
+
+module _ (lim : ℕ) (ws : List ℕ) (r : ℕ) (ms : List ℕ) (a m : ℕ) (fit : length ws ≤ length ms) (l : a < length ws) (sub : Part ms a m) where
+  abbrev met : ℕ
+  met = bitOr r (backIn (moveAt ws a) m)
+
+  noted : Grew lim ws r ms met ms
+  noted =
+      let e : r ≤ met = or-up r (backIn (moveAt ws a) m) in
+      record { long = refl; less = omega arith; kept = λ b k p. p; tail = λ b h. refl; sound = λ b s. s; backs = λ b s. backs-more lim ws r ms a m l sub b s }
+
+  onto-next : {ns : List ℕ} {v : ℕ} → Put (length ws) ms (a + 1) (nextOf (moveAt ws a) m met) ns v → Grew lim ws met ms met ns
+  onto-next p =
+      grew-put lim ws met ms (a + 1) (nextOf (moveAt ws a) m met) p fit
+      (λ b s e h q. came-reached lim ws met ms a m l sub b s e h (on-next (moveAt ws a) m met e h q))
+
+  onto-target : {ns os : List ℕ} {v : ℕ} → Grew lim ws met ms met ns → Put (length ws) ns (toOf (moveAt ws a)) (jumpOf lim (moveAt ws a) m) os v → Grew lim ws met ns met os
+  onto-target {ns} {os} g p =
+      let e : length ns ≡ length ms = g .long in
+      grew-put lim ws met ns (toOf (moveAt ws a)) (jumpOf lim (moveAt ws a) m) p (omega arith)
+      (λ b s e h q. leapt-reached lim ws ns a m l (λ k z. g .kept a k (sub k z)) s e h (on-jump lim (moveAt ws a) m e h q))
+
+-- a visit of a mark that is whole set a bit, or found its address closed
+visit-turned : (lim : ℕ) (ws : List ℕ) (r : ℕ) (ms : List ℕ) (a q : ℕ) {ns os : List ℕ} {v w : ℕ} → length ws ≤ length ms → length ns ≡ length ms → ((q ≡ r → ⊥) → 2 ^ 64 - q < 2 ^ 64 - r)
+    → q ≡ bitOr r (backIn (moveAt ws a) (getD ms a 0))
+    → Put (length ws) ms (a + 1) (nextOf (moveAt ws a) (getD ms a 0) q) ns v → Put (length ws) ns (toOf (moveAt ws a)) (jumpOf lim (moveAt ws a) (getD ms a 0)) os w
+    → Grew lim ws q ms q ns → Grew lim ws q ns q os → Turned lim ws r ms q os a
+visit-turned lim ws r ms a q {ns} {os} {v} {w} fit long rose eq p j g h = onBack (ℕ-discrete q r)
+  where
+    o : Move
+    o = moveAt ws a
+
+    m : ℕ
+    m = getD ms a 0
+
+    onJump : q ≡ r → v ≡ 0 → Dec (w ≡ 0) → Turned lim ws r ms q os a
+    onJump e z (yes y) =
+        let n = put-none (length ws) ms (a + 1) (nextOf o m q) p z in
+        let k = put-none (length ws) ns (toOf o) (jumpOf lim o m) j y in
+        still
+        (record {
+          met = sym eq ∙ e;
+          next = subst (λ (b : ℕ). HoldsAt (length ws) ms (a + 1) (nextOf o m b)) e (n .1);
+          jump = subst (λ (x : List ℕ). HoldsAt (length ws) x (toOf o) (jumpOf lim o m)) (n .0) (k .1);
+        })
+    onJump e z (no y) =
+        let f : left os < left ns = put-left (length ws) ns (toOf o) (jumpOf lim o m) (omega arith) j y in
+        let l : rest ns q ≤ rest ms q = g .less in
+        moved (omega arith)
+
+    onNext : q ≡ r → Dec (v ≡ 0) → Turned lim ws r ms q os a
+    onNext e (yes z) = onJump e z (ℕ-discrete w 0)
+    onNext e (no z) =
+        let f : left ns < left ms = put-left (length ws) ms (a + 1) (nextOf o m q) fit p z in
+        let l : rest os q ≤ rest ns q = h .less in
+        moved (omega arith)
+
+    onBack : Dec (q ≡ r) → Turned lim ws r ms q os a
+    onBack (yes e) = onNext e (ℕ-discrete v 0)
+    onBack (no e) =
+        let b : 2 ^ 64 - q < 2 ^ 64 - r = rose e in
+        let l : rest os q ≤ rest ns q = h .less in
+        let k : rest ns q ≤ rest ms q = g .less in
+        moved (omega arith)
+
+pub visit-law : (lim : ℕ) (ws : List ℕ) (r : ℕ) (ms : List ℕ) (a m q x y t : ℕ) {ns os : List ℕ} {v w : ℕ} → length ws ≤ length ms → a < length ws → Part ms a m → ((q ≡ r → ⊥) → 2 ^ 64 - q < 2 ^ 64 - r)
+    → q ≡ bitOr r (backIn (moveAt ws a) m) → x ≡ nextOf (moveAt ws a) m q → y ≡ jumpOf lim (moveAt ws a) m → t ≡ toOf (moveAt ws a)
+    → Put (length ws) ms (a + 1) x ns v → Put (length ws) ns t y os w
+    → Visits lim ws r ms a m q os v
+visit-law lim ws r ms a m q x y t {ns} {os} {v} {w} fit l sub rose eq ex ey et p j =
+    record { grew = grew-trans (grew-trans g₀ g) h; turned = whole; onward = onward }
+  where
+    o : Move
+    o = moveAt ws a
+
+    p′ : Put (length ws) ms (a + 1) (nextOf o m q) ns v
+    p′ = subst (λ (z : ℕ). Put (length ws) ms (a + 1) z ns v) ex p
+
+    j′ : Put (length ws) ns (toOf o) (jumpOf lim o m) os w
+    j′ = subst (λ (z : ℕ). Put (length ws) ns z (jumpOf lim o m) os w) et (subst (λ (z : ℕ). Put (length ws) ns t z os w) ey j)
+
+    g₀ : Grew lim ws r ms q ms
+    g₀ = subst (λ (z : ℕ). Grew lim ws r ms z ms) (sym eq) (noted lim ws r ms a m fit l sub)
+
+    g : Grew lim ws q ms q ns
+    g = subst (λ (z : ℕ). Put (length ws) ms (a + 1) (nextOf o m z) ns v → Grew lim ws z ms z ns) (sym eq) (onto-next lim ws r ms a m fit l sub) p′
+
+    h : Grew lim ws q ns q os
+    h = subst (λ (z : ℕ). Grew lim ws z ms z ns → Put (length ws) ns (toOf o) (jumpOf lim o m) os w → Grew lim ws z ns z os) (sym eq) (onto-target lim ws r ms a m fit l sub) g j′
+
+    whole : m ≡ getD ms a 0 → Turned lim ws r ms q os a
+    whole e =
+        visit-turned lim ws r ms a q fit (g .long) rose
+        (subst (λ (z : ℕ). q ≡ bitOr r (backIn o z)) e eq)
+        (subst (λ (z : ℕ). Put (length ws) ms (a + 1) (nextOf o z q) ns v) e p′)
+        (subst (λ (z : ℕ). Put (length ws) ns (toOf o) (jumpOf lim o z) os w) e j′)
+        g
+        h
+
+    onward : (v ≡ 0 → ⊥) → (rest os q < rest ms r) × (a + 1 < length ws) × Part os (a + 1) v
+    onward z =
+        let f : left ns < left ms = put-left (length ws) ms (a + 1) (nextOf o m q) fit p′ z in
+        let u : rest os q ≤ rest ns q = h .less in
+        let k : rest ms q ≤ rest ms r = g₀ .less in
+        let i = put-at (length ws) ms (a + 1) (nextOf o m q) fit p′ z in
+        (omega arith, i .0, λ b c. h .kept (a + 1) b (subst (λ (y : ℕ). On b y) (sym (i .1)) c))
+
 -- ---- no place is deeper than the limit
 
 next-depth : (lim : ℕ) {o : Move} {d : ℕ} {c : Bool} {e : ℕ} {h : Bool} → Onward o d c e h → d ≤ lim → e ≤ lim
@@ -236,29 +309,36 @@ depth (back p _ _ q _ _) = depth q
 
 -- ---- closed marks hold all that is reached
 
-module _ (lim : ℕ) (ws : List ℕ) (r : ℕ) (ms : List ℕ) (small : lim ≤ deepest) (begins : On 0 (getD ms 0 0)) (rs : Returns ws ms (length ws) r)
-    (closed : (k : ℕ) → k < length ws → ClosedAt lim ws r ms k) where
+module _ (lim : ℕ) (ws : List ℕ) (r : ℕ) (ms : List ℕ) (small : lim ≤ deepest) (begins : On 0 (getD ms 0 0))
+    (all : (k : ℕ) → k < length ws → ClosedAt lim ws r ms k) where
   land : (k i x : ℕ) → On k x → bitOr (getD ms i 0) x ≡ getD ms i 0 → On k (getD ms i 0)
   land k i x p e = subst (λ (z : ℕ). On k z) e (or-right k (getD ms i 0) x p)
 
   narrow : {d : ℕ} → d ≤ lim → d ≤ deepest
   narrow l = omega arith
 
+  -- a RETURN that is marked has its depths among those known
+  known : (a d : ℕ) (c : Bool) → d ≤ deepest → a < length ws → moveAt ws a ≡ Leave → On (place d c) (getD ms a 0) → On (2 * d) r
+  known a d c h l o p =
+      subst (λ (z : ℕ). On (2 * d) z) (all a l .met)
+      (or-right (2 * d) r (backIn (moveAt ws a) (getD ms a 0))
+      (subst (λ (z : Move). On (2 * d) (backIn z (getD ms a 0))) (sym o) (on-bare d (getD ms a 0) c h p)))
+
   marked : {a d : ℕ} {c : Bool} → Walked lim ws a d c → a < length ws → On (place d c) (getD ms a 0)
   marked begin l = begins
   marked (on {a = a} {d = d} {c = c} {e = e} {h = h} q k nx) l =
       land (place e h) (a + 1) (nextOf (moveAt ws a) (getD ms a 0) r)
       (next-on nx (narrow (depth q)) (getD ms a 0) r (marked q k))
-      (closed a k .next l)
+      (all a k .next l)
   marked (over {a = a} {d = d} {c = c} {t = t} {e = e} {h = h} q k j) l =
       let w = jump-on j (narrow (depth q)) (getD ms a 0) (marked q k) in
       subst (λ (z : ℕ). On (place e h) (getD ms z 0)) (w .0)
-      (land (place e h) (toOf (moveAt ws a)) (jumpOf lim (moveAt ws a) (getD ms a 0)) (w .1) (closed a k .jump (subst (λ (z : ℕ). z < length ws) (sym (w .0)) l)))
+      (land (place e h) (toOf (moveAt ws a)) (jumpOf lim (moveAt ws a) (getD ms a 0)) (w .1) (all a k .jump (subst (λ (z : ℕ). z < length ws) (sym (w .0)) l)))
   marked (back {a = a} {d = d} {c = c} {b = b} {h = h} {t = t} p k o q m u) l =
       land (2 * d) (b + 1) (nextOf (moveAt ws b) (getD ms b 0) r)
       (subst (λ (z : Move). On (2 * d) (nextOf z (getD ms b 0) r)) (sym u)
-      (back-on t d h (getD ms b 0) r (narrow (depth q)) (marked q m) (rs .whole a (d + 1) c (narrow (depth p)) k o (marked p k))))
-      (closed b m .next l)
+      (back-on t d h (getD ms b 0) r (narrow (depth q)) (marked q m) (known a (d + 1) c (narrow (depth p)) k o (marked p k))))
+      (all b m .next l)
 
   pub exact : Sound lim ws ms → Exact lim ws ms
   exact s = record { sound = s; whole = λ a d c l q. marked (walked q) l }
@@ -272,11 +352,114 @@ clear-low ns a l all k h = go (ℕ-discrete k a)
     go (yes e) = subst (λ (z : ℕ). getD (set ns a 0) z 0 ≡ 0) (sym e) (getD-set-same ns a 0 0 l)
     go (no n) = getD-set-other ns a k 0 0 n ∙ all k (omega arith)
 
--- ---- the end
+-- ---- tests
 
--- a sweep that changed nothing, with the depths of RETURN that were marked before it, leaves the least set
-pub settled : (lim : ℕ) (ws : List ℕ) (r : ℕ) (ms ns : List ℕ) → lim ≤ deepest → Sound lim ws ms → On 0 (getD ms 0 0) → Returns ws ms (length ws) r → Swept lim ws r ms ns (length ws) false → Exact lim ws ns
-settled lim ws r ms ns t s b g w = subst (λ (z : List ℕ). Exact lim ws z) (sym (w .0)) (exact lim ws r ms t b g (w .1) s)
+pub tells-and : {a b : Bool} {P Q : Type 0} → Tells P a → Tells Q b → Tells (P × Q) (a && b)
+tells-and (holds p) (holds q) = holds (p, q)
+tells-and (holds p) (fails q) = fails (λ w. q (w .1))
+tells-and (fails p) t = fails (λ w. p (w .0))
+
+pub tells-as : {b : Bool} {P Q : Type 0} → (P → Q) → (Q → P) → Tells P b → Tells Q b
+tells-as f g (holds p) = holds (f p)
+tells-as f g (fails p) = fails (λ q. p (g q))
+
+pub tells-eq : (x y : ℕ) → Tells (x ≡ y) (eqb x y)
+tells-eq x y = go (eqb x y) refl
+  where
+    go : (b : Bool) → eqb x y ≡ b → Tells (x ≡ y) b
+    go true e = holds (eqb-true x y e)
+    go false e = fails (eqb-false x y e)
+
+pub tells-no : {P : Type 0} → Tells P false → P → ⊥
+tells-no (fails f) = f
+
+pub tells-yes : {P : Type 0} → Tells P true → P
+tells-yes (holds p) = p
+
+pub tells-closed : (lim : ℕ) (ws : List ℕ) (r : ℕ) (ms : List ℕ) (a b x y t : ℕ) {c d : Bool}
+    → b ≡ backIn (moveAt ws a) (getD ms a 0) → x ≡ nextOf (moveAt ws a) (getD ms a 0) r → y ≡ jumpOf lim (moveAt ws a) (getD ms a 0) → t ≡ toOf (moveAt ws a)
+    → Tells (HoldsAt (length ws) ms (a + 1) x) c → Tells (HoldsAt (length ws) ms t y) d
+    → Tells (ClosedAt lim ws r ms a) ((eqb (bitOr r b) r && c) && d)
+tells-closed lim ws r ms a b x y t {c} {d} eb ex ey et u v = tells-as to from (tells-and (tells-and (tells-eq (bitOr r b) r) u) v)
+  where
+    n : ℕ
+    n = length ws
+
+    to : ((bitOr r b ≡ r) × HoldsAt (length ws) ms (a + 1) x) × HoldsAt (length ws) ms t y → ClosedAt lim ws r ms a
+    to w =
+        record {
+          met = subst (λ (z : ℕ). bitOr r z ≡ r) eb (w .0 .0);
+          next = subst (λ (z : ℕ). HoldsAt (length ws) ms (a + 1) z) ex (w .0 .1);
+          jump = subst (λ (z : ℕ). HoldsAt (length ws) ms z (jumpOf lim (moveAt ws a) (getD ms a 0))) et (subst (λ (z : ℕ). HoldsAt (length ws) ms t z) ey (w .1));
+        }
+
+    from : ClosedAt lim ws r ms a → ((bitOr r b ≡ r) × HoldsAt (length ws) ms (a + 1) x) × HoldsAt (length ws) ms t y
+    from k = (
+      (subst (λ (z : ℕ). bitOr r z ≡ r) (sym eb) (k .met), subst (λ (z : ℕ). HoldsAt (length ws) ms (a + 1) z) (sym ex) (k .next)),
+      subst (λ (z : ℕ). HoldsAt (length ws) ms t z) (sym ey) (subst (λ (z : ℕ). HoldsAt (length ws) ms z (jumpOf lim (moveAt ws a) (getD ms a 0))) (sym et) (k .jump)),
+    )
+
+pub closed-more : (lim : ℕ) (ws : List ℕ) (r : ℕ) (ms : List ℕ) (a : ℕ) → ((k : ℕ) → k < a → ClosedAt lim ws r ms k) → ClosedAt lim ws r ms a → (k : ℕ) → k < a + 1 → ClosedAt lim ws r ms k
+closed-more lim ws r ms a all here k l =
+    ⊎-elim (λ e. subst (λ (z : ℕ). ClosedAt lim ws r ms z) (sym e) here) (λ h. all k h) (eq-or-lt-of-le (le-of-suc-le-suc (subst (λ (z : ℕ). k < z) (add-one a) l)))
+
+-- ---- following
+
+turn-back : {n : ℕ} {ms : List ℕ} {v t : Trail} → TurnIs n ms v t → t .back ≡ v .back
+turn-back (ahead z) = refl
+turn-back (hint r b h m) = b
+turn-back (ended r b e) = b
+
+pub turn-room : {n : ℕ} {ms : List ℕ} {v t : Trail} → Room v → TurnIs n ms v t → Room t
+turn-room r (ahead z) = r
+turn-room r (hint q b h m) = q
+turn-room r (ended q b e) = q
+
+turned-on : {lim : ℕ} {ws : List ℕ} {r : ℕ} {ms : List ℕ} {q : ℕ} {ns : List ℕ} {p : ℕ} {os : List ℕ} {a : ℕ} → Turned lim ws r ms q ns a → rest os p ≤ rest ns q → Turned lim ws r ms p os a
+turned-on (moved l) h = moved (lt-of-le-of-lt h l)
+turned-on (still k) h = still k
+
+module _ {lim : ℕ} {ws ms : List ℕ} {s : Trail} {ns : List ℕ} {v t : Trail} (d : VisitDone lim ws ms s ns v) (u : TurnIs (length ws) ns v t) where
+  turn-grew : Grew lim ws (s .back) ms (t .back) ns
+  turn-grew = subst (λ (z : ℕ). Grew lim ws (s .back) ms z ns) (sym (turn-back u)) (d .visits .grew)
+
+  pub since-more : {ms₀ : List ℕ} {s₀ : Trail} → Since lim ws ms₀ s₀ ms s → FollowDone lim ws ms₀ s₀ ns t
+  since-more fresh =
+      record {
+        room = turn-room (d .room) u;
+        grew = turn-grew;
+        turned = λ e. subst (λ (z : ℕ). Turned lim ws (s .back) ms z ns (s .at)) (sym (turn-back u)) (d .visits .turned e);
+      }
+  since-more (since f) = record { room = turn-room (d .room) u; grew = grew-trans (f .grew) turn-grew; turned = λ e. turned-on (f .turned e) (turn-grew .less) }
+
+pub turn-hand : {lim : ℕ} {ws ms : List ℕ} {s : Trail} {ns : List ℕ} {v t : Trail} → VisitDone lim ws ms s ns v → TurnIs (length ws) ns v t → t .at < length ws → AtHand ws ns t
+turn-hand {ns = ns} {v = v} d (ahead z) l =
+    let w = d .visits .onward z in
+    record { below = l; part = subst (λ (a : ℕ). Part ns a (v .mark)) (sym (d .at)) (w .2) }
+turn-hand {ns = ns} d (hint {t = t} r b h m) l = record { below = l; part = λ k p. subst (λ (z : ℕ). On k z) m p }
+turn-hand d (ended r b e) l = absurd (omega arith)
+
+pub turn-fell : {lim : ℕ} {ws ms : List ℕ} {s : Trail} {ns : List ℕ} {v t : Trail} → VisitDone lim ws ms s ns v → TurnIs (length ws) ns v t → t .at < length ws
+    → load ns (t .back) (t .hints) < load ms (s .back) (s .hints)
+turn-fell {s = s} {v = v} d (ahead z) l =
+    let w : rest _ (v .back) < rest _ (s .back) = d .visits .onward z .0 in
+    let r : v .hints ≤ wordLimit = d .room .hints in
+    omega arith
+turn-fell {ms = ms} {s = s} {ns = ns} {v = v} d (hint {t = t} r b h m) l =
+    subst (λ (z : ℕ). load ns z (t .hints) < load ms (s .back) (s .hints)) (sym b)
+    (let f : load ns (v .back) (v .hints) ≤ load ms (s .back) (s .hints) = d .fell in omega arith)
+turn-fell d (ended r b e) l = absurd (omega arith)
+
+-- following from an address that is open sets a bit
+pub open-moves : {lim : ℕ} {ws : List ℕ} {r : ℕ} {ms : List ℕ} {q : ℕ} {ns : List ℕ} {a : ℕ} → OpenIs lim ws r ms a → a < length ws → Turned lim ws r ms q ns a → rest ns q < rest ms r
+open-moves (closed k) l t = absurd (omega arith)
+open-moves (first l o) h (moved m) = m
+open-moves (first l o) h (still k) = absurd (o k)
+
+-- marks with no open address are the least set
+pub settled : (lim : ℕ) (ws : List ℕ) (r : ℕ) (ms : List ℕ) {a : ℕ} → lim ≤ deepest → Sound lim ws ms → On 0 (getD ms 0 0) → OpenIs lim ws r ms a → length ws ≤ a → Exact lim ws ms
+settled lim ws r ms t s b (closed k) l = exact lim ws r ms t b k s
+settled lim ws r ms t s b (first h o) l = absurd (omega arith)
 
 -- ---- the start
 

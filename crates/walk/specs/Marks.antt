@@ -9,7 +9,7 @@ use lib.Bits.{bitOr}
 use Rattle.sequence.specs.Bounds.{wordLimit}
 use Rattle.flow.specs.declared.Move.{Move}
 use Rattle.flow.specs.declared.Move.the-variants.{Other, Compare, Jump, Enter, Leave, Loop}
-use Rattle.walk.specs.declared.Visited.{Visited}
+use Rattle.walk.specs.declared.Trail.{Trail}
 use Rattle.flow.specs.Masks.{bareOf, nextOf, jumpOf, toOf}
 use Rattle.flow.specs.Move.{moveAt}
 use Rattle.flow.specs.Walk.{deepest, On, place, Reached}
@@ -32,38 +32,22 @@ unfoldable pub left : List ℕ → ℕ
 left [] = 0
 left (x ∷ xs) = (2 ^ 64 - x) + left xs
 
--- what falls with each hint that is taken: the bits left, and the hints held
-abbrev pub load : List ℕ → ℕ → ℕ
-load ms len = left ms * (wordLimit + 1) + len
+-- bits left to set in the marks and in the depths of RETURN
+abbrev pub rest : List ℕ → ℕ → ℕ
+rest ms r = left ms + (2 ^ 64 - r)
 
--- bits x put at an address: the marks after, and whether one was set
-pub data Put (n : ℕ) (ms : List ℕ) (i x : ℕ) : List ℕ → Bool → Type 0 where
-  out : n ≤ i → Put n ms i x ms false
-  same : i < n → bitOr (getD ms i 0) x ≡ getD ms i 0 → Put n ms i x ms false
-  more : i < n → getD ms i 0 < bitOr (getD ms i 0) x → getD ms i 0 < 2 ^ 64 → Put n ms i x (set ms i (bitOr (getD ms i 0) x)) true
+-- what falls with each visit: the bits left, and the hints held
+abbrev pub load : List ℕ → ℕ → ℕ → ℕ
+load ms r len = rest ms r * (wordLimit + 1) + len
 
--- the marks ns grew out of ms, by what is reached if the depths r are
-pub record Grew (lim : ℕ) (ws : List ℕ) (r : ℕ) (ms ns : List ℕ) : Type 0 where
-  pub long : length ns ≡ length ms
-  pub less : left ns ≤ left ms
-  pub kept : (a k : ℕ) → On k (getD ms a 0) → On k (getD ns a 0)
-  pub tail : (a : ℕ) → length ws ≤ a → getD ns a 0 ≡ getD ms a 0
-  pub sound : Backs lim ws r → Sound lim ws ms → Sound lim ws ns
+-- the bits x are set at an address below n
+abbrev pub HoldsAt : ℕ → List ℕ → ℕ → ℕ → Type 0
+HoldsAt n ms i x = i < n → bitOr (getD ms i 0) x ≡ getD ms i 0
 
--- all that address a leads to is marked
-pub record ClosedAt (lim : ℕ) (ws : List ℕ) (r : ℕ) (ms : List ℕ) (a : ℕ) : Type 0 where
-  pub next : a + 1 < length ws → bitOr (getD ms (a + 1) 0) (nextOf (moveAt ws a) (getD ms a 0) r) ≡ getD ms (a + 1) 0
-  pub jump : toOf (moveAt ws a) < length ws → bitOr (getD ms (toOf (moveAt ws a)) 0) (jumpOf lim (moveAt ws a) (getD ms a 0)) ≡ getD ms (toOf (moveAt ws a)) 0
-
--- a visit of address a set a bit, or nothing changed and a is closed
-abbrev pub Turned : ℕ → List ℕ → ℕ → List ℕ → List ℕ → ℕ → Bool → Type 0
-Turned lim ws r ms ns a true = left ns < left ms
-Turned lim ws r ms ns a false = (ns ≡ ms) × ClosedAt lim ws r ms a
-
--- a sweep up to address a set a bit, or nothing changed and all below a is closed
-abbrev pub Swept : ℕ → List ℕ → ℕ → List ℕ → List ℕ → ℕ → Bool → Type 0
-Swept lim ws r ms ns a true = left ns < left ms
-Swept lim ws r ms ns a false = (ns ≡ ms) × ((k : ℕ) → k < a → ClosedAt lim ws r ms k)
+-- bits x put at an address: the marks after, and the mark there where a bit was set
+pub data Put (n : ℕ) (ms : List ℕ) (i x : ℕ) : List ℕ → ℕ → Type 0 where
+  same : HoldsAt n ms i x → Put n ms i x ms 0
+  more : i < n → getD ms i 0 < bitOr (getD ms i 0) x → getD ms i 0 < 2 ^ 64 → Put n ms i x (set ms i (bitOr (getD ms i 0) x)) (bitOr (getD ms i 0) x)
 
 abbrev pub backIn : Move → ℕ → ℕ
 backIn Other m = 0
@@ -72,6 +56,31 @@ backIn (Jump t) m = 0
 backIn (Enter t) m = 0
 backIn Leave m = bareOf m
 backIn (Loop t) m = 0
+
+-- the marks ns and the depths q of RETURN grew out of ms and r, by what is reached if those are
+pub record Grew (lim : ℕ) (ws : List ℕ) (r : ℕ) (ms : List ℕ) (q : ℕ) (ns : List ℕ) : Type 0 where
+  pub long : length ns ≡ length ms
+  pub less : rest ns q ≤ rest ms r
+  pub kept : (a k : ℕ) → On k (getD ms a 0) → On k (getD ns a 0)
+  pub tail : (a : ℕ) → length ws ≤ a → getD ns a 0 ≡ getD ms a 0
+  pub sound : Backs lim ws r → Sound lim ws ms → Sound lim ws ns
+  pub backs : Backs lim ws r → Sound lim ws ms → Backs lim ws q
+
+-- all that address a leads to is marked, and its depths are known where it is a RETURN
+pub record ClosedAt (lim : ℕ) (ws : List ℕ) (r : ℕ) (ms : List ℕ) (a : ℕ) : Type 0 where
+  pub met : bitOr r (backIn (moveAt ws a) (getD ms a 0)) ≡ r
+  pub next : HoldsAt (length ws) ms (a + 1) (nextOf (moveAt ws a) (getD ms a 0) r)
+  pub jump : HoldsAt (length ws) ms (toOf (moveAt ws a)) (jumpOf lim (moveAt ws a) (getD ms a 0))
+
+-- a visit of address a set a bit, or a was closed
+pub data Turned (lim : ℕ) (ws : List ℕ) (r : ℕ) (ms : List ℕ) (q : ℕ) (ns : List ℕ) (a : ℕ) : Type 0 where
+  moved : rest ns q < rest ms r → Turned lim ws r ms q ns a
+  still : ClosedAt lim ws r ms a → Turned lim ws r ms q ns a
+
+-- a test tells whether something holds
+pub data Tells (P : Type 0) : Bool → Type 0 where
+  holds : P → Tells P true
+  fails : (P → ⊥) → Tells P false
 
 -- r has the depths at which a RETURN below n is marked
 pub record Returns (ws ms : List ℕ) (n r : ℕ) : Type 0 where
@@ -90,34 +99,70 @@ pub record Fits (ws ms : List ℕ) (len lim : ℕ) : Type 0 where
   pub room : len ≤ wordLimit
   pub limit : lim ≤ deepest
 
-pub record PutDone (n : ℕ) (ms : List ℕ) (i x len : ℕ) (ns : List ℕ) (v : Visited) : Type 0 where
-  pub room : v .len ≤ wordLimit
-  pub put : Put n ms i x ns (v .changed)
-  pub fell : load ns (v .len) ≤ load ms len
+-- no more hints and CALLs than there is room for
+pub record Room (s : Trail) : Type 0 where
+  pub hints : s .hints ≤ wordLimit
+  pub calls : s .calls ≤ wordLimit
 
-pub record VisitDone (lim : ℕ) (ws : List ℕ) (r : ℕ) (ms : List ℕ) (len a : ℕ) (ns : List ℕ) (v : Visited) : Type 0 where
-  pub room : v .len ≤ wordLimit
-  pub grew : Grew lim ws r ms ns
-  pub turned : Turned lim ws r ms ns a (v .changed)
-  pub fell : load ns (v .len) ≤ load ms len
+-- the depths of a RETURN are added to those known; that pays for the hints
+pub record NoteDone (o : Move) (s t : Trail) : Type 0 where
+  pub room : Room t
+  pub back : t .back ≡ bitOr (s .back) (backIn o (s .mark))
+  pub rose : (t .back ≡ s .back → ⊥) → 2 ^ 64 - t .back < 2 ^ 64 - s .back
+  pub fell : (2 ^ 64 - t .back) * (wordLimit + 1) + t .hints ≤ (2 ^ 64 - s .back) * (wordLimit + 1) + s .hints
 
-pub record HintDone (lim : ℕ) (ws : List ℕ) (r : ℕ) (ms : List ℕ) (len : ℕ) (ns : List ℕ) (top : ℕ) : Type 0 where
+pub record LeapDone (n : ℕ) (ms : List ℕ) (len i x : ℕ) (ns : List ℕ) (top : ℕ) : Type 0 where
   pub room : top ≤ wordLimit
-  pub grew : Grew lim ws r ms ns
-  pub fell : load ns top ≤ load ms len
+  pub put : (v : ℕ) × Put n ms i x ns v
+  pub fell : left ns * (wordLimit + 1) + top ≤ left ms * (wordLimit + 1) + len
 
-pub record DrainDone (lim : ℕ) (ws : List ℕ) (r : ℕ) (ms ns : List ℕ) (top : ℕ) : Type 0 where
-  pub room : top ≤ wordLimit
-  pub grew : Grew lim ws r ms ns
+-- each bit of a mark at hand is a bit of the mark of its address
+abbrev pub Part : List ℕ → ℕ → ℕ → Type 0
+Part ms a m = (k : ℕ) → On k m → On k (getD ms a 0)
 
-pub record FollowDone (lim : ℕ) (ws : List ℕ) (r : ℕ) (ms : List ℕ) (a : ℕ) (ns : List ℕ) (v : Visited) : Type 0 where
-  pub room : v .len ≤ wordLimit
-  pub grew : Grew lim ws r ms ns
-  pub turned : Turned lim ws r ms ns a (v .changed)
+-- an address of a word, and a mark at hand that is part of its own
+pub record AtHand (ws ms : List ℕ) (s : Trail) : Type 0 where
+  pub below : s .at < length ws
+  pub part : Part ms (s .at) (s .mark)
 
-pub record SweepDone (lim : ℕ) (ws : List ℕ) (r : ℕ) (ms ns : List ℕ) (changed : Bool) : Type 0 where
-  pub grew : Grew lim ws r ms ns
-  pub swept : Swept lim ws r ms ns (length ws) changed
+pub record CanVisit (ws ms : List ℕ) (lim : ℕ) (s : Trail) : Type 0 where
+  pub marks : length ws ≤ length ms
+  pub room : Room s
+  pub limit : lim ≤ deepest
+  pub hand : AtHand ws ms s
+
+-- a visit of address a with mark m: the depths q and marks ns after it, and v for the next address
+pub record Visits (lim : ℕ) (ws : List ℕ) (r : ℕ) (ms : List ℕ) (a m q : ℕ) (ns : List ℕ) (v : ℕ) : Type 0 where
+  pub grew : Grew lim ws r ms q ns
+  pub turned : m ≡ getD ms a 0 → Turned lim ws r ms q ns a
+  pub onward : (v ≡ 0 → ⊥) → (rest ns q < rest ms r) × (a + 1 < length ws) × Part ns (a + 1) v
+
+pub record VisitDone (lim : ℕ) (ws ms : List ℕ) (s : Trail) (ns : List ℕ) (t : Trail) : Type 0 where
+  pub room : Room t
+  pub at : t .at ≡ s .at + 1
+  pub visits : Visits lim ws (s .back) ms (s .at) (s .mark) (t .back) ns (t .mark)
+  pub fell : load ns (t .back) (t .hints) ≤ load ms (s .back) (s .hints)
+
+-- on to the next address, or to one of the hints, or to none
+pub data TurnIs (n : ℕ) (ms : List ℕ) (s : Trail) : Trail → Type 0 where
+  ahead : (s .mark ≡ 0 → ⊥) → TurnIs n ms s s
+  hint : {t : Trail} → Room t → t .back ≡ s .back → t .hints < s .hints → t .mark ≡ getD ms (t .at) 0 → TurnIs n ms s t
+  ended : {t : Trail} → Room t → t .back ≡ s .back → t .at ≡ n → TurnIs n ms s t
+
+pub record FollowDone (lim : ℕ) (ws ms : List ℕ) (s : Trail) (ns : List ℕ) (t : Trail) : Type 0 where
+  pub room : Room t
+  pub grew : Grew lim ws (s .back) ms (t .back) ns
+  pub turned : s .mark ≡ getD ms (s .at) 0 → Turned lim ws (s .back) ms (t .back) ns (s .at)
+
+-- at the start of following, or after a visit of the address it started from
+pub data Since (lim : ℕ) (ws ms : List ℕ) (s : Trail) : List ℕ → Trail → Type 0 where
+  fresh : Since lim ws ms s ms s
+  since : {ns : List ℕ} {t : Trail} → FollowDone lim ws ms s ns t → Since lim ws ms s ns t
+
+-- the first address that is not closed, or the words' end
+pub data OpenIs (lim : ℕ) (ws : List ℕ) (r : ℕ) (ms : List ℕ) : ℕ → Type 0 where
+  closed : ((k : ℕ) → k < length ws → ClosedAt lim ws r ms k) → OpenIs lim ws r ms (length ws)
+  first : {a : ℕ} → a < length ws → (ClosedAt lim ws r ms a → ⊥) → OpenIs lim ws r ms a
 
 -- marks to start from: sound, and the start among them
 pub record CanSettle (lim : ℕ) (ws ms : List ℕ) : Type 0 where

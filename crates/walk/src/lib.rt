@@ -1,25 +1,35 @@
 // The places of the walk, marked in a lent buffer; the work grows linearly with the number of words.
-// Hints say which addresses are worth a visit and carry no promise: a sweep that sets no bit proves that nothing is missing.
+// Hints say which addresses are worth a visit and carry no promise: a last look at every address proves that nothing is missing.
 ghost use mathlib.Core.Path.{_≡_};
 ghost use Prim.Native.Nat.{_≤_, _<_};
 ghost use lib.ListN.{length};
 ghost use Rattle.sequence.specs.Bounds.{wordLimit};
-ghost use Rattle.walk.specs.Marks.{backIn, Returns, Cleared, Fits, PutDone, VisitDone, HintDone, DrainDone, FollowDone, SweepDone, CanSettle, Marked};
+ghost use Rattle.walk.specs.Marks.{backIn, Returns, Cleared, Fits, Room, NoteDone, Put, LeapDone, CanVisit, VisitDone, TurnIs, FollowDone, Tells, HoldsAt, ClosedAt, OpenIs, CanSettle, Marked};
 use flow::Mark;
 use flow::Move;
 use flow::Moves;
 use sequence::Sequence;
 
-// How many hints are held after a visit, and whether it set a bit.
-pub struct Visited {
-    pub len: usize,
-    pub changed: bool,
+// Where the walk is: the hints held, the CALLs listed, the depths at which a RETURN was met, and the address at hand with its mark.
+pub struct Trail {
+    pub hints: usize,
+    pub calls: usize,
+    pub back: u64,
+    pub at: usize,
+    pub mark: u64,
+}
+
+impl Trail {
+    // What is known of an address: it is among the hints, it is among the CALLs.
+    pub const HINTED: u8 = 1;
+
+    pub const LISTED: u8 = 2;
 }
 
 // A hint that an address is worth a visit. It may be dropped.
 fn push(
-    stack: &mut [usize; Sequence::WORDS as usize],
-    on: &mut [u8; Sequence::WORDS as usize],
+    stack: &mut [u16; Sequence::WORDS as usize],
+    known: &mut [u8; Sequence::WORDS as usize],
     len: usize,
     a: usize,
 ) -> usize
@@ -32,168 +42,330 @@ fn push(
     if Sequence::WORDS as usize <= len {
         return len;
     }
-    if on[a] != 0 {
+    if known[a] & Trail::HINTED != 0 {
         return len;
     }
-    on[a] = 1;
-    stack[len] = a;
+    known[a] = known[a] | Trail::HINTED;
+    stack[len] = a as u16;
     len + 1
 }
 
-// Bits put at an address, where it is below n; with a hint where that set one.
-fn put(
-    n: usize,
-    marks: &mut [u64],
-    at: usize,
-    x: u64,
-    stack: &mut [usize; Sequence::WORDS as usize],
-    on: &mut [u8; Sequence::WORDS as usize],
-    len: usize,
-) -> Visited
-    requires { ⌜ (n ≤ length (now marks)) × (len ≤ wordLimit) ⌝ }
-    ensures { λ r. ⌜ PutDone n (now (marks .entry)) at x len (now (marks .exit)) r ⌝ }
-{
-    if n <= at {
-        return Visited {
-            len,
-            changed: false,
-        };
-    }
-    let old = marks[at];
-    let new = old | x;
-    if new == old {
-        return Visited {
-            len,
-            changed: false,
-        };
-    }
-    marks[at] = new;
-    let top = push(stack, on, len, at);
-    Visited {
-        len: top,
-        changed: true,
-    }
-}
-
-// All that an address leads to, but for what a RETURN leads to.
-fn visit(
-    words: &[u64],
-    marks: &mut [u64],
-    stack: &mut [usize; Sequence::WORDS as usize],
-    on: &mut [u8; Sequence::WORDS as usize],
+// A CALL that was met is listed, once.
+fn list(
+    calls: &mut [u16; Sequence::WORDS as usize],
+    known: &mut [u8; Sequence::WORDS as usize],
     len: usize,
     a: usize,
-    back: u64,
-    limit: u64,
-) -> Visited
-    requires { ⌜ Fits (now words) (now marks) len limit × (a < length (now words)) ⌝ }
-    ensures { λ r. ⌜ VisitDone limit (now (words .entry)) back (now (marks .entry)) len a (now (marks .exit)) r ⌝ }
-{
-    let n = words.len();
-    let f = Moves::of(Move::at(words[a]), marks[a], back, limit);
-    let x = f.next;
-    let y = f.jump;
-    let t = f.to as usize;
-    let p = put(n, marks, a + 1, x, stack, on, len);
-    let top = p.len;
-    let q = put(n, marks, t, y, stack, on, top);
-    Visited {
-        len: q.len,
-        changed: p.changed | q.changed,
-    }
-}
-
-// One address taken from the hints.
-fn take_hint(
-    words: &[u64],
-    marks: &mut [u64],
-    stack: &mut [usize; Sequence::WORDS as usize],
-    on: &mut [u8; Sequence::WORDS as usize],
-    len: usize,
-    back: u64,
-    limit: u64,
 ) -> usize
-    requires { ⌜ Fits (now words) (now marks) len limit × (len < wordLimit) ⌝ }
-    ensures { λ r. ⌜ HintDone limit (now (words .entry)) back (now (marks .entry)) len (now (marks .exit)) r ⌝ }
+    requires { ⌜ len ≤ wordLimit ⌝ }
+    ensures { λ r. ⌜ r ≤ wordLimit ⌝ }
 {
-    let a = stack[len];
-    if words.len() <= a {
+    if Sequence::WORDS as usize <= a {
         return len;
     }
-    if a < Sequence::WORDS as usize {
-        on[a] = 0;
+    if Sequence::WORDS as usize <= len {
+        return len;
     }
-    let v = visit(words, marks, stack, on, len, a, back, limit);
-    v.len
+    if known[a] & Trail::LISTED != 0 {
+        return len;
+    }
+    known[a] = known[a] | Trail::LISTED;
+    calls[len] = a as u16;
+    len + 1
 }
 
-// The hints, until none is left.
-fn drain(
-    words: &[u64],
-    marks: &mut [u64],
-    stack: &mut [usize; Sequence::WORDS as usize],
-    on: &mut [u8; Sequence::WORDS as usize],
+// An address that was pushed or listed.
+fn entry(list: &[u16], i: usize) -> usize {
+    if list.len() <= i {
+        return 0;
+    }
+    list[i] as usize
+}
+
+// A CALL, where a RETURN is met one deeper.
+fn push_call(
+    marks: &[u64],
+    stack: &mut [u16; Sequence::WORDS as usize],
+    known: &mut [u8; Sequence::WORDS as usize],
     len: usize,
-    back: u64,
-    limit: u64,
+    a: usize,
+    met: u64,
 ) -> usize
-    requires { ⌜ Fits (now words) (now marks) len limit ⌝ }
-    ensures { λ r. ⌜ DrainDone limit (now (words .entry)) back (now (marks .entry)) (now (marks .exit)) r ⌝ }
+    requires { ⌜ len ≤ wordLimit ⌝ }
+    ensures { λ r. ⌜ r ≤ wordLimit ⌝ }
 {
-    let mut top = len;
-    while 0 < top {
-        top = take_hint(words, marks, stack, on, top - 1, back, limit);
+    if marks.len() <= a {
+        return len;
+    }
+    if Mark::bare(marks[a]) & (met / 4) == 0 {
+        return len;
+    }
+    push(stack, known, len, a)
+}
+
+// The CALLs that a RETURN leads back to.
+fn push_calls(
+    marks: &[u64],
+    stack: &mut [u16; Sequence::WORDS as usize],
+    known: &mut [u8; Sequence::WORDS as usize],
+    calls: &[u16; Sequence::WORDS as usize],
+    s: Trail,
+    met: u64,
+) -> usize
+    requires { ⌜ Room s ⌝ }
+    ensures { λ r. ⌜ r ≤ wordLimit ⌝ }
+{
+    let mut top = s.hints;
+    let mut i: usize = 0;
+    while i < s.calls {
+        let a = entry(calls, i);
+        top = push_call(marks, stack, known, top, a, met);
+        i += 1;
     }
     top
 }
 
-// A visit, and the hints that it gave.
-fn follow(
-    words: &[u64],
-    marks: &mut [u64],
-    stack: &mut [usize; Sequence::WORDS as usize],
-    on: &mut [u8; Sequence::WORDS as usize],
-    len: usize,
-    a: usize,
-    back: u64,
-    limit: u64,
-) -> Visited
-    requires { ⌜ Fits (now words) (now marks) len limit × (a < length (now words)) ⌝ }
-    ensures { λ r. ⌜ FollowDone limit (now (words .entry)) back (now (marks .entry)) a (now (marks .exit)) r ⌝ }
-{
-    let v = visit(words, marks, stack, on, len, a, back, limit);
-    if !v.changed {
-        return v;
-    }
-    let top = drain(words, marks, stack, on, v.len, back, limit);
-    Visited {
-        len: top,
-        changed: true,
+// Whether a word is a CALL.
+fn enters(o: Move) -> bool {
+    match o {
+        Move::Other => false,
+        Move::Compare => false,
+        Move::Jump(_) => false,
+        Move::Enter(_) => true,
+        Move::Leave => false,
+        Move::Loop(_) => false,
     }
 }
 
-// Every address, once; whether a bit was set.
-fn sweep(
+// The word at hand, where it is a RETURN or a CALL.
+fn note(
+    marks: &[u64],
+    stack: &mut [u16; Sequence::WORDS as usize],
+    known: &mut [u8; Sequence::WORDS as usize],
+    calls: &mut [u16; Sequence::WORDS as usize],
+    s: Trail,
+    o: Move,
+) -> Trail
+    requires { ⌜ Room s ⌝ }
+    ensures { λ r. ⌜ NoteDone o s r ⌝ }
+{
+    let met = back_of(o, s.mark);
+    let back = s.back | met;
+    if back != s.back {
+        let hints = push_calls(marks, stack, known, calls, s, met);
+        return Trail {
+            hints,
+            calls: s.calls,
+            back,
+            at: s.at,
+            mark: s.mark,
+        };
+    }
+    if enters(o) {
+        let listed = list(calls, known, s.calls, s.at);
+        return Trail {
+            hints: s.hints,
+            calls: listed,
+            back: s.back,
+            at: s.at,
+            mark: s.mark,
+        };
+    }
+    s
+}
+
+// Bits put at an address, where it is below n: its mark where that set one, else 0.
+fn put(n: usize, marks: &mut [u64], at: usize, x: u64) -> u64
+    requires { ⌜ n ≤ length (now marks) ⌝ }
+    ensures { λ r. ⌜ Put n (now (marks .entry)) at x (now (marks .exit)) r ⌝ }
+{
+    if x == 0 {
+        return 0;
+    }
+    if n <= at {
+        return 0;
+    }
+    let old = marks[at];
+    let new = old | x;
+    if new == old {
+        return 0;
+    }
+    marks[at] = new;
+    new
+}
+
+// Bits put at a target, with a hint where that set one.
+fn leap(
+    n: usize,
+    marks: &mut [u64],
+    stack: &mut [u16; Sequence::WORDS as usize],
+    known: &mut [u8; Sequence::WORDS as usize],
+    len: usize,
+    at: usize,
+    x: u64,
+) -> usize
+    requires { ⌜ (n ≤ length (now marks)) × (len ≤ wordLimit) ⌝ }
+    ensures { λ r. ⌜ LeapDone n (now (marks .entry)) len at x (now (marks .exit)) r ⌝ }
+{
+    if put(n, marks, at, x) == 0 {
+        return len;
+    }
+    push(stack, known, len, at)
+}
+
+// All that the address at hand leads to, and the next address with its mark, which is 0 where no bit was set.
+fn visit(
     words: &[u64],
     marks: &mut [u64],
-    stack: &mut [usize; Sequence::WORDS as usize],
-    on: &mut [u8; Sequence::WORDS as usize],
-    back: u64,
+    stack: &mut [u16; Sequence::WORDS as usize],
+    known: &mut [u8; Sequence::WORDS as usize],
+    calls: &mut [u16; Sequence::WORDS as usize],
+    s: Trail,
     limit: u64,
-) -> bool
-    requires { ⌜ Fits (now words) (now marks) 0 limit ⌝ }
-    ensures { λ r. ⌜ SweepDone limit (now (words .entry)) back (now (marks .entry)) (now (marks .exit)) r ⌝ }
+) -> Trail
+    requires { ⌜ CanVisit (now words) (now marks) limit s ⌝ }
+    ensures { λ r. ⌜ VisitDone limit (now (words .entry)) (now (marks .entry)) s (now (marks .exit)) r ⌝ }
 {
-    let mut changed = false;
-    let mut top: usize = 0;
+    let n = words.len();
+    let a = s.at;
+    let o = Move::at(words[a]);
+    let t = note(marks, stack, known, calls, s, o);
+    let f = Moves::of(o, s.mark, t.back, limit);
+    let next = a + 1;
+    let to = f.to as usize;
+    let mark = put(n, marks, next, f.next);
+    let hints = leap(n, marks, stack, known, t.hints, to, f.jump);
+    Trail {
+        hints,
+        calls: t.calls,
+        back: t.back,
+        at: next,
+        mark,
+    }
+}
+
+// The next address, where its mark grew; else one taken from the hints; else n.
+fn turn(
+    n: usize,
+    marks: &[u64],
+    stack: &[u16; Sequence::WORDS as usize],
+    known: &mut [u8; Sequence::WORDS as usize],
+    s: Trail,
+) -> Trail
+    requires { ⌜ (n ≤ length (now marks)) × Room s ⌝ }
+    ensures { λ r. ⌜ TurnIs n (now (marks .entry)) s r ⌝ }
+{
+    if s.mark != 0 {
+        return s;
+    }
+    if s.hints == 0 {
+        return Trail {
+            hints: 0,
+            calls: s.calls,
+            back: s.back,
+            at: n,
+            mark: 0,
+        };
+    }
+    let top = s.hints - 1;
+    let at = entry(stack, top);
+    if Sequence::WORDS as usize <= at {
+        return Trail {
+            hints: top,
+            calls: s.calls,
+            back: s.back,
+            at: n,
+            mark: 0,
+        };
+    }
+    if n <= at {
+        return Trail {
+            hints: top,
+            calls: s.calls,
+            back: s.back,
+            at: n,
+            mark: 0,
+        };
+    }
+    known[at] = known[at] & Trail::LISTED;
+    let mark = marks[at];
+    Trail {
+        hints: top,
+        calls: s.calls,
+        back: s.back,
+        at,
+        mark,
+    }
+}
+
+// From an address on, until no hint is left.
+fn follow(
+    words: &[u64],
+    marks: &mut [u64],
+    stack: &mut [u16; Sequence::WORDS as usize],
+    known: &mut [u8; Sequence::WORDS as usize],
+    calls: &mut [u16; Sequence::WORDS as usize],
+    from: Trail,
+    limit: u64,
+) -> Trail
+    requires { ⌜ CanVisit (now words) (now marks) limit from ⌝ }
+    ensures { λ r. ⌜ FollowDone limit (now (words .entry)) (now (marks .entry)) from (now (marks .exit)) r ⌝ }
+{
+    let n = words.len();
+    let mut s = from;
+    loop {
+        let v = visit(words, marks, stack, known, calls, s, limit);
+        s = turn(n, marks, stack, known, v);
+        if n <= s.at {
+            return s;
+        }
+    }
+}
+
+// Whether bits are set at an address, where it is below n.
+fn holds(n: usize, marks: &[u64], at: usize, x: u64) -> bool
+    requires { ⌜ n ≤ length (now marks) ⌝ }
+    ensures { λ r. ⌜ Tells (HoldsAt n (now (marks .entry)) at x) r ⌝ }
+{
+    if x == 0 {
+        return true;
+    }
+    if n <= at {
+        return true;
+    }
+    let old = marks[at];
+    (old | x) == old
+}
+
+// Whether all that an address leads to is marked.
+fn is_closed(words: &[u64], marks: &[u64], a: usize, back: u64, limit: u64) -> bool
+    requires { ⌜ Fits (now words) (now marks) 0 limit × (a < length (now words)) ⌝ }
+    ensures { λ r. ⌜ Tells (ClosedAt limit (now (words .entry)) back (now (marks .entry)) a) r ⌝ }
+{
+    let n = words.len();
+    let o = Move::at(words[a]);
+    let m = marks[a];
+    let f = Moves::of(o, m, back, limit);
+    let to = f.to as usize;
+    let met = (back | back_of(o, m)) == back;
+    let next = holds(n, marks, a + 1, f.next);
+    let jump = holds(n, marks, to, f.jump);
+    met & next & jump
+}
+
+// The first address that leads to what is not marked, or n.
+fn first_open(words: &[u64], marks: &[u64], back: u64, limit: u64) -> usize
+    requires { ⌜ Fits (now words) (now marks) 0 limit ⌝ }
+    ensures { λ r. ⌜ OpenIs limit (now (words .entry)) back (now (marks .entry)) r ⌝ }
+{
     let mut a: usize = 0;
     while a < words.len() {
-        let v = follow(words, marks, stack, on, top, a, back, limit);
-        top = v.len;
-        changed = changed | v.changed;
+        if !is_closed(words, marks, a, back, limit) {
+            return a;
+        }
         a += 1;
     }
-    changed
+    a
 }
 
 // The depths of a mark, where the word is a RETURN.
@@ -229,13 +401,38 @@ fn settle(words: &[u64], marks: &mut [u64], limit: u64)
     requires { ⌜ CanSettle limit (now words) (now marks) ⌝ }
     ensures { λ _. ⌜ Marked limit (now (words .entry)) (now (marks .entry)) (now (marks .exit)) ⌝ }
 {
-    let mut stack = [0usize; Sequence::WORDS as usize];
-    let mut on = [0u8; Sequence::WORDS as usize];
+    let mut stack = [0u16; Sequence::WORDS as usize];
+    let mut known = [0u8; Sequence::WORDS as usize];
+    let mut calls = [0u16; Sequence::WORDS as usize];
+    let mut s = Trail {
+        hints: 0,
+        calls: 0,
+        back: 0,
+        at: 0,
+        mark: 0,
+    };
     loop {
-        let back = returned(words, marks);
-        if !sweep(words, marks, &mut stack, &mut on, back, limit) {
+        let a = first_open(words, marks, s.back, limit);
+        if words.len() <= a {
             return;
         }
+        let mark = marks[a];
+        let from = Trail {
+            hints: s.hints,
+            calls: s.calls,
+            back: s.back,
+            at: a,
+            mark,
+        };
+        s = follow(
+            words,
+            marks,
+            &mut stack,
+            &mut known,
+            &mut calls,
+            from,
+            limit,
+        );
     }
 }
 

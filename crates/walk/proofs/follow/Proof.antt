@@ -1,37 +1,58 @@
--- A visit that set a bit; what the hints add takes none away.
-use mathlib.Core.Path.{subst}
-use mathlib.Core.Bool.{Bool}
-use native.Mathlib.Nat.{lt-of-le-of-lt}
-use borrow.Author.Tests.{not-false}
-use Rattle.walk.specs.Marks.{Turned}
-use Rattle.walk.proofs.Laws.{grew-trans}
-use borrow.Author.Needs.{needs}
+-- Each visit sets a bit, or a hint is taken.
+use Prim.Native.Nat.{_≤_}
+use mathlib.Core.Path.{_∙_}
+use native.Mathlib.Omega.{arith}
+use lib.ListN.{length}
+use Rattle.walk.specs.Marks.{Room, AtHand, Since, fresh, since, load}
+use Rattle.walk.proofs.Laws.{since-more, turn-hand, turn-fell, turn-room}
 use Rattle.walk.proofs.follow.Statement.{statement}
 use Rattle.walk.proofs.follow.Tie as tie
 
-visit-requires : tie.Need-visit-requires
-visit-requires c κs = search needs
+abbrev Inv-loop : tie.InvT-loop
+Inv-loop words marks₀ stack₀ known₀ calls₀ limit n s₀ marks stack known calls s = (length words ≤ length marks) × Room s × AtHand words marks s × Since limit words marks₀ s₀ marks s
 
-same-length : tie.Need-same-length
-same-length c = search needs
+abbrev μ-loop : tie.MeasureT-loop
+μ-loop words marks₀ stack₀ known₀ calls₀ limit n s₀ marks stack known calls s = load marks (s .back) (s .hints)
 
-returns : tie.Need-returns
-returns c = search needs
+loop-holds : tie.Need-loop-holds Inv-loop μ-loop
+loop-holds c = let p = c .before .before .pre in (p .marks, p .room, p .hand, fresh)
 
-drain-requires : tie.Need-drain-requires
-drain-requires c κs = search needs
+visit-requires : tie.Need-visit-requires Inv-loop μ-loop
+visit-requires c κs = let i = c .before .before .before .before .loop .inv in record { marks = i .0; room = i .1; limit = c .before .before .before .before .before .before .before .pre .limit; hand = i .2 }
 
-same-length-2 : tie.Need-same-length-2
-same-length-2 c = search needs
+turn-requires : tie.Need-turn-requires Inv-loop μ-loop
+turn-requires c κs =
+    let v = c .before .before .before .before .before .visit in
+    let g = v .ensures .visits .grew .long in
+    let i = c .before .before .before .before .before .before .before .before .before .before .loop .inv .0 in (omega (arith, g, i), v .ensures .room)
 
-returns-2 : tie.Need-returns-2
-returns-2 c =
-    let d = c .before .before .drain .ensures in
-    let v = c .before .before .before .before .before .before .before .before .before .before .visit in
-    let s = c .before .before .before .before .before .before .before .before .before .before .before .before .before .before .before .before .args in
-    let t = subst (λ (z : Bool). Turned (s .limit) (s .words .now) (s .back) (s .marks .now) (v .last .1 .0) (s .a) z) (not-false (v .result .changed) (c .before .before .before .before .before .before .if1 .left)) (v .ensures .turned) in
-    record { room = d .room; grew = grew-trans (v .ensures .grew) (d .grew); turned = lt-of-le-of-lt (d .grew .less) t }
+same-length : tie.Need-same-length Inv-loop μ-loop
+same-length c = since-more (c .before .before .before .before .before .before .before .before .visit .ensures) (c .before .before .turn .ensures) (c .before .before .before .before .before .before .before .before .before .before .before .before .before .loop .inv .3) .grew .long
+
+returns : tie.Need-returns Inv-loop μ-loop
+returns c = since-more (c .before .before .before .before .before .before .before .before .visit .ensures) (c .before .before .turn .ensures) (c .before .before .before .before .before .before .before .before .before .before .before .before .before .loop .inv .3)
+
+loop-less : tie.Need-loop-less Inv-loop μ-loop
+loop-less c = turn-fell (c .before .before .before .before .before .before .before .before .visit .ensures) (c .before .before .turn .ensures) (c .if1 .left)
+
+loop-again : tie.Need-loop-again Inv-loop μ-loop
+loop-again c =
+    let v = c .before .before .before .before .before .before .before .before .visit .ensures in
+    let t = c .before .before .turn .ensures in
+    let l = c .before .before .before .before .before .before .before .before .before .before .before .before .before .loop in
+    let g = v .visits .grew .long in
+    let i = l .inv .0 in (omega (arith, g, i), turn-room (v .room) t, turn-hand v t (c .if1 .left), since (since-more v t (l .inv .3)))
 
 pub follow-spec : {M : Type 1} → statement M
 follow-spec =
-    tie.close (tie.spec visit-requires same-length returns drain-requires same-length-2 returns-2)
+    tie.close
+    (tie.spec
+    Inv-loop
+    μ-loop
+    loop-holds
+    visit-requires
+    turn-requires
+    same-length
+    returns
+    loop-less
+    loop-again)

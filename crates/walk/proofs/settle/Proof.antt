@@ -1,69 +1,64 @@
--- Each sweep but the last sets a bit; the last proves that none is missing.
-use Prim.Native.Nat.{ℕ, _≤_}
-use mathlib.Core.Path.{_≡_, refl, subst, _∙_}
-use mathlib.Core.Bool.{Bool}
+-- Following from an open address sets a bit; where none is open, nothing is missing.
+use Prim.Native.Nat.{ℕ, _*_, _≤_}
+use mathlib.Core.Path.{_≡_, refl, _∙_}
 use native.Mathlib.Omega.{arith}
-use borrow.Author.Tests.{not-true, not-false}
 use lib.ListN.{length, getD}
 use Rattle.flow.specs.Walk.{On}
-use Rattle.walk.specs.Marks.{Swept, Sound, left}
-use Rattle.walk.proofs.Laws.{settled, backs-of}
+use Rattle.flow.proofs.Bits.{zero-off}
+use Rattle.walk.specs.Marks.{Sound, Backs, Room, rest}
+use Rattle.walk.proofs.Laws.{settled, open-moves}
 use Rattle.walk.proofs.settle.Statement.{statement}
 use Rattle.walk.proofs.settle.Tie as tie
 
 abbrev Inv-loop : tie.InvT-loop
-Inv-loop words marks₀ limit stack₀ on₀ marks stack on =
-    (length words ≤ length marks) × (length marks ≡ length marks₀) × Sound limit words marks × On 0 (getD marks 0 0) × ((a : ℕ) → length words ≤ a → getD marks a 0 ≡ getD marks₀ a 0)
+Inv-loop words marks₀ limit stack₀ known₀ calls₀ s₀ marks stack known calls s = (length words ≤ length marks) × (length marks ≡ length marks₀) × Sound limit words marks × On 0 (getD marks 0 0) × ((a : ℕ) → length words ≤ a → getD marks a 0 ≡ getD marks₀ a 0) × Backs limit words (s .back) × Room s
 
 abbrev μ-loop : tie.MeasureT-loop
-μ-loop words marks₀ limit stack₀ on₀ marks stack on = left marks
+μ-loop words marks₀ limit stack₀ known₀ calls₀ s₀ marks stack known calls s = rest marks (s .back)
 
 loop-holds : tie.Need-loop-holds Inv-loop μ-loop
-loop-holds c = let p = c .before .before .pre in (p .fits .marks, refl, p .sound, p .start, λ a l. refl)
+loop-holds c = let p = c .before .before .pre in (p .fits .marks, refl, p .sound, p .start, λ a l. refl, λ d q. zero-off (2 * d) q, record { hints = omega arith; calls = omega arith })
 
-returned-requires : tie.Need-returned-requires Inv-loop μ-loop
-returned-requires c κs = omega arith
-
-sweep-requires : tie.Need-sweep-requires Inv-loop μ-loop
-sweep-requires c κs = omega arith
+first-open-requires : tie.Need-first-open-requires Inv-loop μ-loop
+first-open-requires c κs = record { marks = c .before .loop .inv .0; room = omega arith; limit = c .before .before .before .before .pre .fits .limit }
 
 same-length : tie.Need-same-length Inv-loop μ-loop
-same-length c = c .before .before .before .sweep .ensures .grew .long ∙ c .before .before .before .before .before .before .before .before .before .loop .inv .1
+same-length c = c .before .before .before .loop .inv .1
 
 returns : tie.Need-returns Inv-loop μ-loop
 returns c =
-    let w = c .before .before .before .sweep in
-    let r = c .before .before .before .before .before .before .before .returned in
-    let l = c .before .before .before .before .before .before .before .before .before .loop in
-    let s = c .before .before .before .before .before .before .before .before .before .before .before .before .args in
-    record {
-      long = w .ensures .grew .long ∙ l .inv .1;
-      exact = settled (s .limit) (s .words .now) (r .result) (l .marks) (w .last .1 .0) (c .before .before .before .before .before .before .before .before .before .before .before .before .pre .fits .limit) (l .inv .2) (l .inv .3) (r .ensures)
-          (subst (λ (z : Bool). Swept (s .limit) (s .words .now) (r .result) (l .marks) (w .last .1 .0) (length (s .words .now)) z) (not-true (w .result) (c .if1 .taken)) (w .ensures .swept));
-      tail = λ a h. w .ensures .grew .tail a h ∙ l .inv .4 a h;
-    }
+    let l = c .before .before .before .loop in
+    let s = c .before .before .before .before .before .before .args in
+    record { long = l .inv .1; exact = settled (s .limit) (s .words .now) (l .s .back) (l .marks) (c .before .before .before .before .before .before .pre .fits .limit) (l .inv .2) (l .inv .3) (c .before .first-open .ensures) (c .if1 .taken); tail = l .inv .4 }
+
+mul-mark : tie.Need-mul-mark Inv-loop μ-loop
+mul-mark c = omega arith
+
+slice-read-mark : tie.Need-slice-read-mark Inv-loop μ-loop
+slice-read-mark c = omega (arith, c .before .before .before .before .loop .inv .0)
+
+follow-requires : tie.Need-follow-requires Inv-loop μ-loop
+follow-requires c κs =
+    let i = c .before .before .before .before .before .before .before .before .loop .inv in
+    record { marks = i .0; room = record { hints = i .6 .hints; calls = i .6 .calls }; limit = c .before .before .before .before .before .before .before .before .before .before .before .pre .fits .limit; hand = record { below = c .before .before .before .before .before .if1 .left; part = λ k p. p } }
 
 loop-less : tie.Need-loop-less Inv-loop μ-loop
-loop-less c =
-    let w = c .before .before .before .sweep in
-    let r = c .before .before .before .before .before .before .before .returned in
-    let l = c .before .before .before .before .before .before .before .before .before .loop in
-    let s = c .before .before .before .before .before .before .before .before .before .before .before .before .args in
-    subst (λ (z : Bool). Swept (s .limit) (s .words .now) (r .result) (l .marks) (w .last .1 .0) (length (s .words .now)) z) (not-false (w .result) (c .if1 .left)) (w .ensures .swept)
+loop-less c = open-moves (c .before .before .before .before .before .before .before .before .before .first-open .ensures) (c .before .before .before .before .before .before .before .before .if1 .left) (c .before .before .follow .ensures .turned refl)
 
 loop-again : tie.Need-loop-again Inv-loop μ-loop
 loop-again c =
-    let w = c .before .before .before .sweep in
-    let r = c .before .before .before .before .before .before .before .returned in
-    let l = c .before .before .before .before .before .before .before .before .before .loop in
-    let s = c .before .before .before .before .before .before .before .before .before .before .before .before .args in
-    let g = w .ensures .grew in
-    let e : length (w .last .1 .0) ≡ length (l .marks) = g .long in (
-      omega arith,
-      g .long ∙ l .inv .1,
-      g .sound (backs-of (s .limit) (s .words .now) (l .marks) (r .result) (l .inv .2) (r .ensures)) (l .inv .2),
-      g .kept 0 0 (l .inv .3),
-      λ a h. g .tail a h ∙ l .inv .4 a h,
+    let g = c .before .before .follow .ensures .grew in
+    let l = c .before .before .before .before .before .before .before .before .before .before .before .loop in
+    let i = l .inv in
+    let e = g .long in
+    let m = i .0 in (
+      omega (arith, e, m),
+      g .long ∙ i .1,
+      g .sound (i .5) (i .2),
+      g .kept 0 0 (i .3),
+      λ a h. g .tail a h ∙ i .4 a h,
+      g .backs (i .5) (i .2),
+      c .before .before .follow .ensures .room,
     )
 
 pub settle-spec : {M : Type 1} → statement M
@@ -73,9 +68,11 @@ settle-spec =
     Inv-loop
     μ-loop
     loop-holds
-    returned-requires
-    sweep-requires
+    first-open-requires
     same-length
     returns
+    mul-mark
+    slice-read-mark
+    follow-requires
     loop-less
     loop-again)

@@ -1,10 +1,13 @@
 -- Two puts, of what the word leads to.
-use mathlib.Core.Path.{ap, _∙_}
+use mathlib.Core.Path.{refl, ap, _∙_}
 use native.Mathlib.Omega.{arith}
-use lib.ListN.{getD}
+use lib.ListN.{length}
+use Prim.Native.Nat.{_≤_}
+use lib.Bits.{bitOr}
 use Rattle.flow.specs.declared.Move.{Move}
 use Rattle.flow.specs.Masks.{nextOf, jumpOf, toOf}
-use Rattle.walk.proofs.Laws.{visit-law}
+use Rattle.walk.specs.Marks.{backIn, left}
+use Rattle.walk.proofs.Laws.{visit-law, put-less}
 use borrow.Author.Needs.{needs}
 use Rattle.walk.proofs.visit.Statement.{statement}
 use Rattle.walk.proofs.visit.Tie as tie
@@ -18,44 +21,49 @@ shared-slice-read-at c = search needs
 at-requires : tie.Need-at-requires
 at-requires c κs = search needs
 
-mul-of : tie.Need-mul-of
-mul-of c = search needs
-
-slice-read-of : tie.Need-slice-read-of
-slice-read-of c = search needs
+note-requires : tie.Need-note-requires
+note-requires c κs = search needs
 
 of-requires : tie.Need-of-requires
 of-requires c κs = search needs
 
-add-put : tie.Need-add-put
-add-put c = search needs
+add-next : tie.Need-add-next
+add-next c = search needs
 
 put-requires : tie.Need-put-requires
 put-requires c κs = search needs
 
-put-requires-2 : tie.Need-put-requires-2
-put-requires-2 c κs = search needs
+leap-requires : tie.Need-leap-requires
+leap-requires c κs = search needs
 
 same-length : tie.Need-same-length
 same-length c = search needs
 
 returns : tie.Need-returns
 returns c =
-    let q = c .before .before .before .before .put2 .ensures in
-    let p = c .before .before .before .before .before .before .before .before .before .before .put .ensures in
-    let f = c .before .before .before .before .before .before .before .before .before .before .before .before .before .before .of in
+    let j = c .before .before .leap .ensures in
+    let p = c .before .before .before .before .before .before .before .before .put .ensures in
+    let f = c .before .before .before .before .before .before .before .before .before .before .of in
+    let t = c .before .before .before .before .before .before .before .before .before .before .before .note in
     let o = c .before .before .before .before .before .before .before .before .before .before .before .before .before .before .before .before .at .ensures in
-    let s = c .before .before .before .before .before .before .before .before .before .before .before .before .before .before .before .before .before .before .before .before in
-    let ms = s .args .marks .now in
-    let a = s .args .a in
-    let w =
-    visit-law (s .args .limit) (s .args .words .now) (s .args .back) ms a (f .result .next) (f .result .jump) (f .result .to) (s .pre .0 .marks) (s .pre .1)
-    (f .ensures .next ∙ ap (λ (z : Move). nextOf z (getD ms a 0) (s .args .back)) o)
-    (f .ensures .jump ∙ ap (λ (z : Move). jumpOf (s .args .limit) z (getD ms a 0)) o)
-    (f .ensures .to ∙ ap toOf o)
-    (p .put)
-    (q .put)
-    in record { room = q .room; grew = w .0; turned = w .1; fell = omega (arith, p .fell, q .fell) }
+    let s = c .before .before .before .before .before .before .before .before .before .before .before .before .before .before .before .before .before .before .before .before .args in
+    let pre = c .before .before .before .before .before .before .before .before .before .before .before .before .before .before .before .before .before .before .before .before .pre in
+    let ms = s .marks .now in
+    let h = s .s in
+    let less : left (c .before .before .before .before .before .before .before .before .put .last .1 .0) ≤ left ms = put-less (length (s .words .now)) ms _ _ p in
+    record {
+      room = record { hints = j .room; calls = t .ensures .room .calls };
+      at = refl;
+      visits =
+          visit-law (s .limit) (s .words .now) (h .back) ms (h .at) (h .mark) (t .result .back) (f .result .next) (f .result .jump) (f .result .to) (pre .marks) (pre .hand .below) (pre .hand .part) (t .ensures .rose)
+          (t .ensures .back ∙ ap (λ (z : Move). bitOr (h .back) (backIn z (h .mark))) o)
+          (f .ensures .next ∙ ap (λ (z : Move). nextOf z (h .mark) (t .result .back)) o)
+          (f .ensures .jump ∙ ap (λ (z : Move). jumpOf (s .limit) z (h .mark)) o)
+          (f .ensures .to ∙ ap toOf o)
+          p
+          (j .put .1);
+      fell = omega (arith, j .fell, less, t .ensures .fell);
+    }
 
 pub visit-spec : {M : Type 1} → statement M
 visit-spec =
@@ -64,11 +72,10 @@ visit-spec =
     mul-at
     shared-slice-read-at
     at-requires
-    mul-of
-    slice-read-of
+    note-requires
     of-requires
-    add-put
+    add-next
     put-requires
-    put-requires-2
+    leap-requires
     same-length
     returns)
