@@ -20,34 +20,19 @@ pub enum Move {
 }
 
 impl Move {
-    pub fn of(body: Body) -> Move
-        ensures { λ r. ⌜ r ≡ moveOf body ⌝ }
-    {
-        match body {
-            Body::Waveform(_) => Move::Other,
-            Body::Marker(_) => Move::Other,
-            Body::Wait => Move::Other,
-            Body::LoadRepeat(_) => Move::Other,
-            Body::Repeat(a) => Move::Loop(a),
-            Body::Cmp(_) => Move::Compare,
-            Body::Goto(a) => Move::Jump(a),
-            Body::Call(a) => Move::Enter(a),
-            Body::Return(_) => Move::Leave,
-            Body::Sync => Move::Other,
-            Body::Modulator(_) => Move::Other,
-            Body::LoadCmp(_) => Move::Other,
-            Body::Prefetch(_) => Move::Other,
-            Body::Noop => Move::Other,
-        }
-    }
-
-    // The move of a word.
+    // The move of a word. Five op codes have a rule of their own.
     pub fn at(word: u64) -> Move
         ensures { λ r. ⌜ r ≡ moveOf (spelledBy word .body) ⌝ }
     {
-        let i = Instruction::spelled_by(word);
-        let body = i.body;
-        Move::of(body)
+        let to = (word >> WordAddress::PLACE.low) % (1 << WordAddress::PLACE.width);
+        match Instruction::code_in(word) {
+            Body::REPEAT => Move::Loop(WordAddress(to)),
+            Body::CMP => Move::Compare,
+            Body::GOTO => Move::Jump(WordAddress(to)),
+            Body::CALL => Move::Enter(WordAddress(to)),
+            Body::RETURN => Move::Leave,
+            _ => Move::Other,
+        }
     }
 }
 

@@ -1,19 +1,50 @@
--- The move of what the word spells.
-use mathlib.Core.Path.{ap, _∙_}
-use Rattle.instruction.specs.declared.Instruction.{Instruction}
-use Rattle.flow.specs.Move.{moveOf}
+-- Each arm is the move of what its code spells.
+use Rattle.flow.proofs.Codes.{move-at, move-other}
 use borrow.Author.Needs.{needs}
 use Rattle.flow.proofs.Move.at.Statement.{statement}
 use Rattle.flow.proofs.Move.at.Tie as tie
 
-spelled-by-requires : tie.Need-spelled-by-requires
-spelled-by-requires c κs = search needs
+shr-to : tie.Need-shr-to
+shr-to c = search needs
 
-of-requires : tie.Need-of-requires
-of-requires c κs = search needs
+shl-to : tie.Need-shl-to
+shl-to c = search needs
+
+rem-to : tie.Need-rem-to
+rem-to c = search needs
+
+code-in-requires : tie.Need-code-in-requires
+code-in-requires c κs = search needs
 
 returns : tie.Need-returns
-returns c = c .of .ensures ∙ ap (λ (i : Instruction). moveOf (i .body)) (c .before .spelled-by .ensures)
+returns c = move-at (c .before .before .before .before .args .word) (c .before .code-in .ensures) (c .match .keys1)
+
+returns-2 : tie.Need-returns-2
+returns-2 c = move-at (c .before .before .before .before .args .word) (c .before .code-in .ensures) (c .match .keys2)
+
+returns-3 : tie.Need-returns-3
+returns-3 c = move-at (c .before .before .before .before .args .word) (c .before .code-in .ensures) (c .match .keys3)
+
+returns-4 : tie.Need-returns-4
+returns-4 c = move-at (c .before .before .before .before .args .word) (c .before .code-in .ensures) (c .match .keys4)
+
+returns-5 : tie.Need-returns-5
+returns-5 c = move-at (c .before .before .before .before .args .word) (c .before .code-in .ensures) (c .match .keys5)
+
+returns-6 : tie.Need-returns-6
+returns-6 c = let r = c .match .rest in move-other (c .before .before .before .before .args .word) (c .before .code-in .ensures) (r .0 .0 .0 .0 .1) (r .0 .0 .0 .1) (r .0 .0 .1) (r .0 .1) (r .1)
 
 pub at-spec : {M : Type 1} → statement M
-at-spec = tie.close (tie.spec spelled-by-requires of-requires returns)
+at-spec =
+    tie.close
+    (tie.spec
+    shr-to
+    shl-to
+    rem-to
+    code-in-requires
+    returns
+    returns-2
+    returns-3
+    returns-4
+    returns-5
+    returns-6)

@@ -1,0 +1,35 @@
+-- The move of a word, by its op code.
+-- Assumes nothing.
+use Prim.Native.Nat.{ℕ, zero, suc}
+use mathlib.Core.Path.{_≡_, refl, sym, ap, _∙_}
+use mathlib.Core.List.{List}
+use Rattle.instruction.specs.Table.{bodyOf}
+use Rattle.instruction.specs.Word.{codeIn, valuesIn, spelledBy}
+use Rattle.flow.specs.declared.Move.{Move}
+use Rattle.flow.specs.declared.Move.the-variants.{Other}
+use Rattle.flow.specs.Move.{moveOf}
+
+-- of an op code that is known
+pub move-at : (w : ℕ) {n k : ℕ} → n ≡ codeIn w → n ≡ k → moveOf (bodyOf k (valuesIn k w)) ≡ moveOf (spelledBy w .body)
+unfolding spelledBy
+move-at w e h = ap (λ (c : ℕ). moveOf (bodyOf c (valuesIn c w))) (sym h ∙ e)
+
+other-code : (n : ℕ) (vs : List ℕ) → (n ≡ 4 → ⊥) → (n ≡ 5 → ⊥) → (n ≡ 6 → ⊥) → (n ≡ 7 → ⊥) → (n ≡ 8 → ⊥) → moveOf (bodyOf n vs) ≡ Other
+other-code zero vs h4 h5 h6 h7 h8 = refl
+other-code (suc zero) vs h4 h5 h6 h7 h8 = refl
+other-code (suc (suc zero)) vs h4 h5 h6 h7 h8 = refl
+other-code (suc (suc (suc zero))) vs h4 h5 h6 h7 h8 = refl
+other-code (suc (suc (suc (suc zero)))) vs h4 h5 h6 h7 h8 = absurd (h4 refl)
+other-code (suc (suc (suc (suc (suc zero))))) vs h4 h5 h6 h7 h8 = absurd (h5 refl)
+other-code (suc (suc (suc (suc (suc (suc zero)))))) vs h4 h5 h6 h7 h8 = absurd (h6 refl)
+other-code (suc (suc (suc (suc (suc (suc (suc zero))))))) vs h4 h5 h6 h7 h8 = absurd (h7 refl)
+other-code (suc (suc (suc (suc (suc (suc (suc (suc zero)))))))) vs h4 h5 h6 h7 h8 = absurd (h8 refl)
+other-code (suc (suc (suc (suc (suc (suc (suc (suc (suc zero))))))))) vs h4 h5 h6 h7 h8 = refl
+other-code (suc (suc (suc (suc (suc (suc (suc (suc (suc (suc zero)))))))))) vs h4 h5 h6 h7 h8 = refl
+other-code (suc (suc (suc (suc (suc (suc (suc (suc (suc (suc (suc zero))))))))))) vs h4 h5 h6 h7 h8 = refl
+other-code (suc (suc (suc (suc (suc (suc (suc (suc (suc (suc (suc (suc zero)))))))))))) vs h4 h5 h6 h7 h8 = refl
+other-code (suc (suc (suc (suc (suc (suc (suc (suc (suc (suc (suc (suc (suc n))))))))))))) vs h4 h5 h6 h7 h8 = refl
+
+-- of one without a rule of its own
+pub move-other : (w : ℕ) {n : ℕ} → n ≡ codeIn w → (n ≡ 4 → ⊥) → (n ≡ 5 → ⊥) → (n ≡ 6 → ⊥) → (n ≡ 7 → ⊥) → (n ≡ 8 → ⊥) → Other ≡ moveOf (spelledBy w .body)
+move-other w {n} e h4 h5 h6 h7 h8 = sym (other-code n (valuesIn n w) h4 h5 h6 h7 h8) ∙ move-at w e refl
