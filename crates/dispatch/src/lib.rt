@@ -129,32 +129,23 @@ fn count_word(word: u64, waits: &mut [u64; Engines::COUNT], totals: &mut [u64; E
     waits[engine] = waits[engine] + share.waits;
 }
 
-// The words of a group, each in its turn.
-fn count_group(
+// The group writer: the words of a group go out from the start of the part that is lent, and each is counted in its turn.
+fn write_group(
     words: &[u64],
     from: usize,
     n: usize,
+    room: &mut [u64],
     waits: &mut [u64; Engines::COUNT],
     totals: &mut [u64; Engines::COUNT],
 )
-    requires { ⌜ CanCount (now words) from n (now waits) (now totals) ⌝ }
-    ensures { λ _. ⌜ CountedAll (part from n (now (words .entry))) (now (waits .entry)) (now (totals .entry)) (now (waits .exit)) (now (totals .exit)) ⌝ }
+    requires { ⌜ CanCount (now words) from n (now waits) (now totals) × (n ≤ length (now room)) ⌝ }
+    ensures { λ _. ⌜ (now (room .exit) ≡ part from n (now (words .entry)) ++ drop n (now (room .entry))) × CountedAll (part from n (now (words .entry))) (now (waits .entry)) (now (totals .entry)) (now (waits .exit)) (now (totals .exit)) ⌝ }
 {
     let mut i = 0;
     while i < n {
-        count_word(words[from + i], waits, totals);
-        i += 1;
-    }
-}
-
-// The group writer: the words of a group, from the start of the part that is lent.
-fn write_group(words: &[u64], from: usize, n: usize, room: &mut [u64])
-    requires { ⌜ (from + n ≤ length (now words)) × (n ≤ length (now room)) ⌝ }
-    ensures { λ _. ⌜ now (room .exit) ≡ part from n (now (words .entry)) ++ drop n (now (room .entry)) ⌝ }
-{
-    let mut i = 0;
-    while i < n {
-        room[i] = words[from + i];
+        let word = words[from + i];
+        room[i] = word;
+        count_word(word, waits, totals);
         i += 1;
     }
 }
@@ -172,6 +163,5 @@ pub fn dispatch(
     requires { ⌜ CanDispatch (now words) from n (length (now trace)) len (now waits) (now totals) ⌝ }
     ensures { λ _. ⌜ Dispatched (part from n (now (words .entry))) len (now (trace .entry)) (now (waits .entry)) (now (totals .entry)) (now (trace .exit)) (now (waits .exit)) (now (totals .exit)) ⌝ }
 {
-    count_group(words, from, n, waits, totals);
-    write_group(words, from, n, &mut trace[len..]);
+    write_group(words, from, n, &mut trace[len..], waits, totals);
 }

@@ -1,25 +1,29 @@
 -- Laws of the step's definitions: what each comes to under its tests, and how an answer meets its promise.
 -- Assumes nothing.
 use mathlib.Core.Path.{_≡_, refl, sym, ap, _∙_, subst}
-use mathlib.Core.Bool.{Bool, true, false, _||_}
+use mathlib.Core.Bool.{Bool, true, false, _||_, _&&_, true≢false}
 use mathlib.Core.List.{List, [], _∷_}
 use Prim.Native.Nat.{ℕ, zero, suc, _+_, _-_, _^_, _≤_, _<_}
 use native.Mathlib.Decide.{ℕ-discrete}
 use native.Mathlib.Omega.{arith}
-use borrow.Author.Tests.{lt-ltb, le-ltb, le-leb, lt-leb, ne-eqb}
-use lib.Dec.{ltb}
+use borrow.Author.Tests.{lt-ltb, le-ltb, le-leb, lt-leb, ne-eqb, eqb-true, eqb-false}
+use lib.Dec.{ltb, eqb}
 use lib.ListN.{length, getD}
+use Rattle.instruction.specs.Bits.{pick}
+use Rattle.instruction.specs.Table.{codeOf}
 use Rattle.instruction.specs.declared.Refusal.{Refusal}
 use Rattle.instruction.specs.declared.Instruction.{Instruction}
+use Rattle.instruction.specs.declared.Body.{Body}
+use Rattle.instruction.specs.declared.Body.the-variants.{Waveform, Marker, Wait, LoadRepeat, Repeat, Cmp, Goto, Call, Return, Sync, Modulator, LoadCmp, Prefetch, Noop}
 use Rattle.reader.specs.Reading.{readingOf}
 use Rattle.reader.specs.declared.Reading.the-variants.{Accepted, Refused}
-use Rattle.sequence.specs.Placing.{placingOf}
+use Rattle.sequence.specs.Placing.{isEngine, placingOf}
 use Rattle.buffer.specs.Put.{put}
 use Rattle.buffer.proofs.Laws.{put-none}
 use Rattle.dispatch.proofs.Counts.{picks, counted-more}
 use Rattle.instruction.specs.Form.{numbered}
 use Rattle.machine.specs.State.{Fixed, Did, stateOf, withMessage, withCore, refusedBy, stop, moves, stopped, Done, Traced}
-use Rattle.machine.specs.Step.{nexts, acts, cleared, pushed, callOf, popped, returnOf, messageOf, holdOf, groupOf, sent, sendOf, engineOf, anyAbove, syncOf, actOf, breaksGroup, executeOf, withReading, stepOf}
+use Rattle.machine.specs.Step.{nexts, acts, cleared, pushed, callOf, popped, returnOf, messageOf, holdOf, groupOf, sent, sendOf, engineOf, anyAbove, syncOf, goesOut, actOf, breaksGroup, executeOf, withReading, stepOf}
 use Rattle.machine.specs.Kept.{At, Sends}
 use Rattle.machine.specs.declared.Core.{Core}
 use Rattle.machine.specs.declared.State.{State}
@@ -103,6 +107,64 @@ sync-stops e s h = rw h
 pub sync-sends : (e : Fixed) (s : State) → anyAbove (e .setting .triggers) (s .waits) ≡ false → syncOf e s ≡ sendOf e s
 unfolding syncOf
 sync-sends e s h = rw h
+
+-- ---- what goes out
+
+-- SYNC, with a count above the triggers given
+abbrev pub awaiting : Fixed → State → Body → Bool
+awaiting e s b = pick (eqb (codeOf b) 9) (anyAbove (e .setting .triggers) (s .waits)) false
+
+pub out-awaits : (e : Fixed) (s : State) (w : ℕ) (b : Body) → awaiting e s b ≡ true → actOf e s w b ≡ stop 41 s
+unfolding actOf
+out-awaits e s w (Waveform f) h = absurd (true≢false (sym h))
+out-awaits e s w (Marker f) h = absurd (true≢false (sym h))
+out-awaits e s w Wait h = absurd (true≢false (sym h))
+out-awaits e s w (LoadRepeat n) h = absurd (true≢false (sym h))
+out-awaits e s w (Repeat a) h = absurd (true≢false (sym h))
+out-awaits e s w (Cmp x) h = absurd (true≢false (sym h))
+out-awaits e s w (Goto a) h = absurd (true≢false (sym h))
+out-awaits e s w (Call a) h = absurd (true≢false (sym h))
+out-awaits e s w (Return p) h = absurd (true≢false (sym h))
+out-awaits e s w Sync h = sync-stops e s h
+out-awaits e s w (Modulator f) h = absurd (true≢false (sym h))
+out-awaits e s w (LoadCmp p) h = absurd (true≢false (sym h))
+out-awaits e s w (Prefetch a) h = absurd (true≢false (sym h))
+out-awaits e s w Noop h = absurd (true≢false (sym h))
+
+-- an engine word whose write flag is low
+pub out-held : (e : Fixed) (s : State) (w : ℕ) (b : Body) → (isEngine b && eqb w 0) ≡ true → actOf e s w b ≡ moves (withCore (holdOf (s .core)) s)
+unfolding actOf
+out-held e s w (Waveform f) h = engine-low e s w (eqb-true w 0 h)
+out-held e s w (Marker f) h = engine-low e s w (eqb-true w 0 h)
+out-held e s w Wait h = absurd (true≢false (sym h))
+out-held e s w (LoadRepeat n) h = absurd (true≢false (sym h))
+out-held e s w (Repeat a) h = absurd (true≢false (sym h))
+out-held e s w (Cmp x) h = absurd (true≢false (sym h))
+out-held e s w (Goto a) h = absurd (true≢false (sym h))
+out-held e s w (Call a) h = absurd (true≢false (sym h))
+out-held e s w (Return p) h = absurd (true≢false (sym h))
+out-held e s w Sync h = absurd (true≢false (sym h))
+out-held e s w (Modulator f) h = engine-low e s w (eqb-true w 0 h)
+out-held e s w (LoadCmp p) h = absurd (true≢false (sym h))
+out-held e s w (Prefetch a) h = absurd (true≢false (sym h))
+out-held e s w Noop h = absurd (true≢false (sym h))
+
+pub out-sent : (e : Fixed) (s : State) (w : ℕ) (b : Body) → goesOut b ≡ true → awaiting e s b ≡ false → (isEngine b && eqb w 0) ≡ false → actOf e s w b ≡ sendOf e s
+unfolding actOf
+out-sent e s w (Waveform f) g q h = engine-high e s w (eqb-false w 0 h)
+out-sent e s w (Marker f) g q h = engine-high e s w (eqb-false w 0 h)
+out-sent e s w Wait g q h = refl
+out-sent e s w (LoadRepeat n) g q h = absurd (true≢false (sym g))
+out-sent e s w (Repeat a) g q h = absurd (true≢false (sym g))
+out-sent e s w (Cmp x) g q h = absurd (true≢false (sym g))
+out-sent e s w (Goto a) g q h = absurd (true≢false (sym g))
+out-sent e s w (Call a) g q h = absurd (true≢false (sym g))
+out-sent e s w (Return p) g q h = absurd (true≢false (sym g))
+out-sent e s w Sync g q h = sync-sends e s q
+out-sent e s w (Modulator f) g q h = engine-high e s w (eqb-false w 0 h)
+out-sent e s w (LoadCmp p) g q h = absurd (true≢false (sym g))
+out-sent e s w (Prefetch a) g q h = absurd (true≢false (sym g))
+out-sent e s w Noop g q h = absurd (true≢false (sym g))
 
 -- ---- counts above the triggers given
 

@@ -1,14 +1,17 @@
 // One step of a sequence on the module's instruction set, and the state that it moves.
 // The core goes by value and the arrays are lent beside it: measured, this runs as plain C does.
 ghost use mathlib.Core.Path.{_≡_};
+ghost use mathlib.Core.Bool.{true, false};
 ghost use mathlib.Core.List.{List};
 ghost use Prim.Native.Nat.{ℕ, _+_, _<_};
 ghost use lib.ListN.{length};
+ghost use lib.Dec.{eqb};
 ghost use Rattle.instruction.specs.Bits.{pick};
+ghost use Rattle.instruction.specs.Table.{codeOf};
 ghost use Rattle.sequence.specs.Bounds.{budgetLimit};
 ghost use Rattle.dispatch.specs.Engines.{engineCount};
 ghost use Rattle.machine.specs.State.{fixedBy, stateOf, freshCore, withMessage, withSent, withCounter, withCondition, stopped, Done, Traced};
-ghost use Rattle.machine.specs.Step.{goes, nexts, repeatOf, compares, compareOf, acts, gotoOf, callOf, returnOf, messageOf, holdOf, sendOf, engineOf, anyAbove, syncOf, actOf, breaksGroup, executeOf, stepOf};
+ghost use Rattle.machine.specs.Step.{goes, nexts, repeatOf, compares, compareOf, acts, gotoOf, callOf, returnOf, messageOf, holdOf, sendOf, anyAbove, goesOut, actOf, breaksGroup, executeOf, stepOf};
 ghost use Rattle.machine.specs.declared.Setting.{Setting};
 ghost use Rattle.machine.specs.Kept.{Counts, Holds, Returns, Sends, Ready, At};
 use dispatch::Engines;
@@ -343,24 +346,6 @@ fn send(
     Stepped::moves(s.sends(end))
 }
 
-// An engine word: held where its write flag is low.
-fn engine(
-    words: &[u64],
-    trace: &mut [u64],
-    waits: &mut [u64; Engines::COUNT],
-    totals: &mut [u64; Engines::COUNT],
-    s: Core,
-    write: u64,
-) -> Stepped
-    requires { ⌜ Sends (now words) (length (now trace)) s (now waits) (now totals) ⌝ }
-    ensures { λ r. ⌜ ((ms rs cs : List ℕ) (setting : Setting) → Traced (engineOf (fixedBy (now (words .entry)) ms (length (now (trace .entry))) setting) (stateOf s rs cs (now (waits .entry)) (now (totals .entry))) write) (s .sent) (now (trace .entry)) (now (trace .exit)) r rs cs (now (waits .exit)) (now (totals .exit))) ⌝ }
-{
-    if write == 0 {
-        return Stepped::moves(s.hold());
-    }
-    send(words, trace, waits, totals, s)
-}
-
 fn any_above(triggers: u64, waits: &[u64; Engines::COUNT]) -> bool
     requires { ⌜ length (now waits) ≡ engineCount ⌝ }
     ensures { λ r. ⌜ r ≡ anyAbove triggers (now (waits .entry)) ⌝ }
@@ -375,20 +360,58 @@ fn any_above(triggers: u64, waits: &[u64; Engines::COUNT]) -> bool
     false
 }
 
-// H6: SYNC, and 41.
-fn sync(
+// H6: SYNC.
+fn awaits_trigger(body: Body, triggers: u64, waits: &[u64; Engines::COUNT]) -> bool
+    requires { ⌜ length (now waits) ≡ engineCount ⌝ }
+    ensures { λ r. ⌜ r ≡ pick (eqb (codeOf body) (codeOf Body.Sync)) (anyAbove triggers (now (waits .entry))) false ⌝ }
+{
+    if body.code() != Body::SYNC {
+        return false;
+    }
+    any_above(triggers, waits)
+}
+
+// Engine words, WAIT and SYNC: the words that the trace can hold.
+fn goes_out(body: Body) -> bool
+    ensures { λ r. ⌜ r ≡ goesOut body ⌝ }
+{
+    match body {
+        Body::Waveform(_) => true,
+        Body::Marker(_) => true,
+        Body::Wait => true,
+        Body::LoadRepeat(_) => false,
+        Body::Repeat(_) => false,
+        Body::Cmp(_) => false,
+        Body::Goto(_) => false,
+        Body::Call(_) => false,
+        Body::Return(_) => false,
+        Body::Sync => true,
+        Body::Modulator(_) => true,
+        Body::LoadCmp(_) => false,
+        Body::Prefetch(_) => false,
+        Body::Noop => false,
+    }
+}
+
+// A word that goes out: 41, or held where it is an engine word and its write flag is low, or sent.
+fn outward(
     words: &[u64],
     trace: &mut [u64],
     waits: &mut [u64; Engines::COUNT],
     totals: &mut [u64; Engines::COUNT],
     s: Core,
+    write: u64,
+    body: Body,
     setting: Setting,
 ) -> Stepped
-    requires { ⌜ Sends (now words) (length (now trace)) s (now waits) (now totals) ⌝ }
-    ensures { λ r. ⌜ ((ms rs cs : List ℕ) → Traced (syncOf (fixedBy (now (words .entry)) ms (length (now (trace .entry))) setting) (stateOf s rs cs (now (waits .entry)) (now (totals .entry)))) (s .sent) (now (trace .entry)) (now (trace .exit)) r rs cs (now (waits .exit)) (now (totals .exit))) ⌝ }
+    requires { ⌜ Sends (now words) (length (now trace)) s (now waits) (now totals) × (goesOut body ≡ true) ⌝ }
+    ensures { λ r. ⌜ ((ms rs cs : List ℕ) → Traced (actOf (fixedBy (now (words .entry)) ms (length (now (trace .entry))) setting) (stateOf s rs cs (now (waits .entry)) (now (totals .entry))) write body) (s .sent) (now (trace .entry)) (now (trace .exit)) r rs cs (now (waits .exit)) (now (totals .exit))) ⌝ }
 {
-    if any_above(setting.triggers, waits) {
+    if awaits_trigger(body, setting.triggers, waits) {
         return Stepped::stop(Stepped::TRIGGER_AWAITED, s);
+    }
+    if Sequence::is_engine(body) & (write == 0) {
+        return Stepped::moves(s.hold());
     }
     send(words, trace, waits, totals, s)
 }
@@ -410,18 +433,22 @@ fn act(
     requires { ⌜ At (fixedBy (now words) (now messages) (length (now trace)) setting) (stateOf s (now returns) (now counters) (now waits) (now totals)) ⌝ }
     ensures { λ r. ⌜ Traced (actOf (fixedBy (now (words .entry)) (now (messages .entry)) (length (now (trace .entry))) setting) (stateOf s (now (returns .entry)) (now (counters .entry)) (now (waits .entry)) (now (totals .entry))) write body) (s .sent) (now (trace .entry)) (now (trace .exit)) r (now (returns .exit)) (now (counters .exit)) (now (waits .exit)) (now (totals .exit)) ⌝ }
 {
+    if goes_out(body) {
+        return outward(words, trace, waits, totals, s, write, body, setting);
+    }
+    // The arms of what goes out are never taken.
     match body {
-        Body::Waveform(_) => engine(words, trace, waits, totals, s, write),
-        Body::Marker(_) => engine(words, trace, waits, totals, s, write),
-        Body::Wait => send(words, trace, waits, totals, s),
+        Body::Waveform(_) => Stepped::moves(s.nexts()),
+        Body::Marker(_) => Stepped::moves(s.nexts()),
+        Body::Wait => Stepped::moves(s.nexts()),
         Body::LoadRepeat(n) => Stepped::moves(s.loads(n.0)),
         Body::Repeat(a) => Stepped::moves(s.repeat(a)),
         Body::Cmp(x) => Stepped::moves(s.compare(x)),
         Body::Goto(a) => Stepped::moves(s.goto(a)),
         Body::Call(a) => call(returns, counters, s, a),
         Body::Return(_) => ret(returns, counters, s),
-        Body::Sync => sync(words, trace, waits, totals, s, setting),
-        Body::Modulator(_) => engine(words, trace, waits, totals, s, write),
+        Body::Sync => Stepped::moves(s.nexts()),
+        Body::Modulator(_) => Stepped::moves(s.nexts()),
         Body::LoadCmp(_) => message(messages, s),
         Body::Prefetch(_) => Stepped::moves(s.nexts()),
         Body::Noop => Stepped::moves(s.nexts()),

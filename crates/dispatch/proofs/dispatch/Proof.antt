@@ -12,9 +12,6 @@ use borrow.Author.Needs.{needs}
 use Rattle.dispatch.proofs.dispatch.Statement.{statement}
 use Rattle.dispatch.proofs.dispatch.Tie as tie
 
-count-group-requires : tie.Need-count-group-requires
-count-group-requires c κs = search needs
-
 mul-write-group : tie.Need-mul-write-group
 mul-write-group c = search needs
 
@@ -35,22 +32,22 @@ same-length c = search needs
 
 returns : tie.Need-returns
 returns c =
-    let d = c .before .before .before .before .before .before .before .before .before in
-    let a = d .args in
+    let a = c .before .before .before .before .before .before .before .before .args in
+    let p = c .before .before .before .before .before .before .before .before .pre in
+    let w = c .before .before .write-group .ensures in
     let t = now (a .trace) in
-    let h : a .n ≤ length (drop (a .from) (now (a .words))) = rw length-drop (omega (arith, d .pre .count .inside)) in
+    let h : a .n ≤ length (drop (a .from) (now (a .words))) = rw length-drop (omega (arith, p .count .inside)) in
     record {
-      trace = ap (λ (y : List ℕ). take (a .len) t ++ (y ++ drop (length t - a .len) (drop (a .len) t))) (c .before .before .write-group .ensures)
-          ∙ put-part t (part (a .from) (a .n) (now (a .words))) (a .len) (a .n) (omega (arith, d .pre .fits)) (length-take-le (a .n) (drop (a .from) (now (a .words))) h);
-      waits = c .before .before .before .before .count-group .ensures .waits;
-      totals = c .before .before .before .before .count-group .ensures .totals;
+      trace = ap (λ (y : List ℕ). take (a .len) t ++ (y ++ drop (length t - a .len) (drop (a .len) t))) (w .0)
+          ∙ put-part t (part (a .from) (a .n) (now (a .words))) (a .len) (a .n) (omega (arith, p .fits)) (length-take-le (a .n) (drop (a .from) (now (a .words))) h);
+      waits = w .1 .waits;
+      totals = w .1 .totals;
     }
 
 pub dispatch-spec : {M : Type 1} → statement M
 dispatch-spec =
     tie.close
     (tie.spec
-    count-group-requires
     mul-write-group
     sub-write-group
     part-write-group-start
