@@ -23,8 +23,8 @@ use instruction::WaveformFields;
 use instruction::WordAddress;
 use listing::list;
 use machine::Condition;
-use reader::form_number;
 use reader::instruction_in;
+use reader::refusal_of;
 use rehearsal::Answer;
 use rehearsal::run;
 use verdict::Verdict;
@@ -78,10 +78,10 @@ fn fields_of(i: Instruction) -> [u64; Lent::FIELDS]
 pub extern "C" fn aps2_read(word: u64, fields: &mut [u64; Lent::FIELDS]) -> u64
     ensures { λ r. ⌜ Read (readingOf word) r (now (fields .exit)) ⌝ }
 {
-    let number = form_number(word);
-    if number != 0 {
+    let refusal = refusal_of(word);
+    if refusal.number != 0 {
         *fields = [0; Lent::FIELDS];
-        return number;
+        return refusal.number;
     }
     *fields = fields_of(instruction_in(word));
     0

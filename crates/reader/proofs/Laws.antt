@@ -7,9 +7,10 @@ use Prim.Native.Nat.{ℕ, _<_, _≤_}
 use borrow.Author.Tests.{eq-eqb, ne-eqb, le-leb, lt-leb}
 use Rattle.instruction.specs.Bits.{pick}
 use Rattle.instruction.specs.Form.{numbered, formOf}
+use Rattle.instruction.specs.declared.Refusal.{Refusal}
 use Rattle.instruction.specs.Table.{noopWord}
 use Rattle.instruction.specs.Word.{codeIn, spelledBy, noop}
-use Rattle.reader.specs.Reading.{hasUnnamed, notItsOp, formIn, instructionIn, readingOf, numberOf}
+use Rattle.reader.specs.Reading.{hasUnnamed, notItsOp, formIn, instructionIn, readingOf, refusalOf, numberOf}
 use Rattle.reader.specs.declared.Reading.the-variants.{Accepted, Refused}
 
 pub reads-noop : (w : ℕ) → w ≡ noopWord → readingOf w ≡ Accepted noop
@@ -40,30 +41,33 @@ pub form-rest : (w : ℕ) → codeIn w < 13 → hasUnnamed w ≡ false → notIt
 unfolding formIn
 form-rest w h u o = rw (lt-leb 13 (codeIn w) h, u, o)
 
--- ---- by the number
+-- ---- by the refusal
 
-pub number-noop : (w : ℕ) → w ≡ noopWord → 0 ≡ numberOf (readingOf w)
-number-noop w e = ap numberOf (sym (reads-noop w e))
+pub refusal-noop : (w : ℕ) → w ≡ noopWord → numbered 0 ≡ refusalOf (readingOf w)
+refusal-noop w e = ap refusalOf (sym (reads-noop w e))
 
-pub number-form : (w : ℕ) → (w ≡ noopWord → ⊥) → formIn w ≡ numberOf (readingOf w)
-number-form w h = by (ℕ-discrete (formIn w) 0)
+pub refusal-form : (w : ℕ) → (w ≡ noopWord → ⊥) → numbered (formIn w) ≡ refusalOf (readingOf w)
+refusal-form w h = by (ℕ-discrete (formIn w) 0)
   where
-    by : Dec (formIn w ≡ 0) → formIn w ≡ numberOf (readingOf w)
-    by (yes z) = z ∙ ap numberOf (sym (reads w h z))
-    by (no z) = ap numberOf (sym (refuses w h z))
+    by : Dec (formIn w ≡ 0) → numbered (formIn w) ≡ refusalOf (readingOf w)
+    by (yes z) = ap numbered z ∙ ap refusalOf (sym (reads w h z))
+    by (no z) = ap refusalOf (sym (refuses w h z))
 
--- a word whose number is 0 reads as what it spells, and any other as its number
+-- a word whose number is 0 reads as what it spells, and any other as its refusal
 module _ (w : ℕ) where
+  form-of : (w ≡ noopWord → ⊥) → formIn w ≡ numberOf (readingOf w)
+  form-of h = ap (λ (r : Refusal). r .number) (refusal-form w h)
+
   pub reads-instruction : numberOf (readingOf w) ≡ 0 → Accepted (instructionIn w) ≡ readingOf w
   reads-instruction z = by (ℕ-discrete w noopWord)
     where
       by : Dec (w ≡ noopWord) → Accepted (instructionIn w) ≡ readingOf w
       by (yes e) = ap (λ (b : Bool). Accepted (pick b noop (spelledBy w))) (eq-eqb w noopWord e) ∙ sym (reads-noop w e)
-      by (no h) = ap (λ (b : Bool). Accepted (pick b noop (spelledBy w))) (ne-eqb w noopWord h) ∙ sym (reads w h (number-form w h ∙ z))
+      by (no h) = ap (λ (b : Bool). Accepted (pick b noop (spelledBy w))) (ne-eqb w noopWord h) ∙ sym (reads w h (form-of h ∙ z))
 
-  pub refuses-number : (numberOf (readingOf w) ≡ 0 → ⊥) → Refused (numbered (numberOf (readingOf w))) ≡ readingOf w
-  refuses-number n = by (ℕ-discrete w noopWord)
+  pub refuses-whole : (numberOf (readingOf w) ≡ 0 → ⊥) → Refused (refusalOf (readingOf w)) ≡ readingOf w
+  refuses-whole n = by (ℕ-discrete w noopWord)
     where
-      by : Dec (w ≡ noopWord) → Refused (numbered (numberOf (readingOf w))) ≡ readingOf w
-      by (yes e) = absurd (n (sym (number-noop w e)))
-      by (no h) = ap (λ (k : ℕ). Refused (numbered k)) (sym (number-form w h)) ∙ sym (refuses w h (λ z. n (sym (number-form w h) ∙ z)))
+      by : Dec (w ≡ noopWord) → Refused (refusalOf (readingOf w)) ≡ readingOf w
+      by (yes e) = absurd (n (ap numberOf (reads-noop w e)))
+      by (no h) = ap Refused (sym (refusal-form w h)) ∙ sym (refuses w h (λ z. n (sym (form-of h) ∙ z)))

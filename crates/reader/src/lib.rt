@@ -4,7 +4,7 @@ ghost use mathlib.Core.Path.{_≡_};
 ghost use Prim.Native.Nat.{_<_};
 ghost use lib.ListN.{getD};
 ghost use Rattle.reader.specs.Masks.{namedBits};
-ghost use Rattle.reader.specs.Reading.{refusalOf, numberOf, hasUnnamed, notItsOp, formIn, instructionIn, readingOf};
+ghost use Rattle.reader.specs.Reading.{refusalOf, hasUnnamed, notItsOp, formIn, instructionIn, readingOf};
 use instruction::Body;
 use instruction::EngineOp;
 use instruction::Instruction;
@@ -102,17 +102,19 @@ fn form_in(word: u64) -> u64
     Instruction::form_in(word)
 }
 
-// The form number of a word, or 0.
-pub fn form_number(word: u64) -> u64
-    ensures { λ r. ⌜ r ≡ numberOf (readingOf word) ⌝ }
+// The refusal of a word; number 0 where it is accepted.
+pub fn refusal_of(word: u64) -> Refusal
+    ensures { λ r. ⌜ r ≡ refusalOf (readingOf word) ⌝ }
 {
     if word == Instruction::NOOP {
-        return 0;
+        return Refusal { number: 0 };
     }
-    form_in(word)
+    Refusal {
+        number: form_in(word),
+    }
 }
 
-// What a word reads as, if its form number is 0.
+// What a word reads as that is accepted.
 pub fn instruction_in(word: u64) -> Instruction
     ensures { λ r. ⌜ r ≡ instructionIn word ⌝ }
 {
@@ -129,9 +131,9 @@ pub fn instruction_in(word: u64) -> Instruction
 pub fn read(word: u64) -> Reading
     ensures { λ r. ⌜ r ≡ readingOf word ⌝ }
 {
-    let number = form_number(word);
-    if number != 0 {
-        return Reading::Refused(Refusal { number });
+    let refusal = refusal_of(word);
+    if refusal.number != 0 {
+        return Reading::Refused(refusal);
     }
     Reading::Accepted(instruction_in(word))
 }

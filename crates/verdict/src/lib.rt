@@ -14,8 +14,8 @@ use flow::Move;
 use flow::Moves;
 use instruction::Instruction;
 use instruction::Refusal;
-use reader::Reading;
-use reader::read;
+use reader::instruction_in;
+use reader::refusal_of;
 use sequence::Sequence;
 
 // A refusal and its place; number 0 at place 0 is accepted.
@@ -152,12 +152,13 @@ fn word_refusal(words: &[u64], wave: u64, a: usize) -> Refusal
     requires { ⌜ a < length (now words) ⌝ }
     ensures { λ r. ⌜ r ≡ wordRefusal wave (now (words .entry)) a ⌝ }
 {
-    let reading = read(words[a]);
-    match reading {
-        Reading::Accepted(i) => Refusal {
-            number: stands_refused(words, wave, a + 1, i),
-        },
-        Reading::Refused(r) => r,
+    let word = words[a];
+    let refusal = refusal_of(word);
+    if refusal.number != 0 {
+        return refusal;
+    }
+    Refusal {
+        number: stands_refused(words, wave, a + 1, instruction_in(word)),
     }
 }
 

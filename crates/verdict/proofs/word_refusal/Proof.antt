@@ -1,48 +1,50 @@
--- By what the word reads as.
+-- The refusal of its form, or of where it stands.
 use mathlib.Core.Path.{sym, ap, _∙_}
-use borrow.Author.Needs.{needs}
+use lib.ListN.{length, getD, drop}
+use Prim.Native.Nat.{_+_}
 use Rattle.instruction.specs.Form.{numbered}
+use Rattle.instruction.specs.declared.Instruction.{Instruction}
+use Rattle.instruction.specs.declared.Refusal.{Refusal}
+use Rattle.reader.proofs.Laws.{reads-instruction, refuses-whole}
+use Rattle.verdict.specs.Words.{standsRefused}
 use Rattle.verdict.proofs.Words.{refusal-at}
+use borrow.Author.Needs.{needs}
 use Rattle.verdict.proofs.word_refusal.Statement.{statement}
 use Rattle.verdict.proofs.word_refusal.Tie as tie
 
-mul-read : tie.Need-mul-read
-mul-read c = search needs
+mul-word : tie.Need-mul-word
+mul-word c = search needs
 
-shared-slice-read-read : tie.Need-shared-slice-read-read
-shared-slice-read-read c = search needs
+shared-slice-read-word : tie.Need-shared-slice-read-word
+shared-slice-read-word c = search needs
 
-read-requires : tie.Need-read-requires
-read-requires c κs = search needs
+refusal-of-requires : tie.Need-refusal-of-requires
+refusal-of-requires c κs = search needs
 
-enum-known-reading : tie.Need-enum-known-reading
-enum-known-reading c = search needs
+returns : tie.Need-returns
+returns c = c .before .before .refusal-of .ensures ∙ sym (refusal-at (c .before .before .before .before .before .args .wave) (c .before .before .before .before .before .args .words .now) (c .before .before .before .before .before .args .a) (sym (refuses-whole (getD (c .before .before .before .before .before .args .words .now) (c .before .before .before .before .before .args .a) 0) (λ z. c .if1 .taken (ap (λ (r : Refusal). r .number) (c .before .before .refusal-of .ensures) ∙ z)))))
 
 add-stands-refused : tie.Need-add-stands-refused
 add-stands-refused c = search needs
 
+instruction-in-requires : tie.Need-instruction-in-requires
+instruction-in-requires c κs = search needs
+
 stands-refused-requires : tie.Need-stands-refused-requires
 stands-refused-requires c κs = search needs
 
-enum-known-reading-2 : tie.Need-enum-known-reading-2
-enum-known-reading-2 c = search needs
-
-returns : tie.Need-returns
-returns c = ap numbered (c .stands-refused .ensures) ∙ sym (refusal-at (c .before .before .before .before .before .before .before .args .wave) (c .before .before .before .before .before .before .before .args .words .now) (c .before .before .before .before .before .before .before .args .a) (sym (c .before .before .before .before .read .ensures) ∙ c .before .before .reading .given .1))
-
 returns-2 : tie.Need-returns-2
-returns-2 c = sym (refusal-at (c .before .before .before .before .before .before .args .wave) (c .before .before .before .before .before .before .args .words .now) (c .before .before .before .before .before .before .args .a) (sym (c .before .before .before .read .ensures) ∙ c .before .reading2 .given .1))
+returns-2 c = ap numbered (c .stands-refused .ensures ∙ ap (λ (i : Instruction). standsRefused (c .before .before .before .before .before .before .before .args .wave) (length (c .before .before .before .before .before .before .before .args .words .now)) (drop (c .before .before .before .before .before .before .before .args .a + 1) (c .before .before .before .before .before .before .before .args .words .now)) i) (c .before .instruction-in .ensures)) ∙ sym (refusal-at (c .before .before .before .before .before .before .before .args .wave) (c .before .before .before .before .before .before .before .args .words .now) (c .before .before .before .before .before .before .before .args .a) (sym (reads-instruction (getD (c .before .before .before .before .before .before .before .args .words .now) (c .before .before .before .before .before .before .before .args .a) 0) (sym (ap (λ (r : Refusal). r .number) (c .before .before .before .before .refusal-of .ensures)) ∙ c .before .before .if1 .left))))
 
 pub word-refusal-spec : {M : Type 1} → statement M
 word-refusal-spec =
     tie.close
     (tie.spec
-    mul-read
-    shared-slice-read-read
-    read-requires
-    enum-known-reading
-    add-stands-refused
-    stands-refused-requires
-    enum-known-reading-2
+    mul-word
+    shared-slice-read-word
+    refusal-of-requires
     returns
+    add-stands-refused
+    instruction-in-requires
+    stands-refused-requires
     returns-2)
