@@ -22,7 +22,8 @@ use Rattle.instruction.specs.declared.Body.the-variants.{Waveform, Marker, Wait
 use Rattle.instruction.proofs.Laws.{fits-noop, fits-other, word-noop, word-other}
 use Rattle.reader.specs.Reading.{someBelow, hasUnnamed, notItsOp, formIn, readingOf}
 use Rattle.reader.specs.declared.Reading.the-variants.{Accepted, Refused}
-use Rattle.reader.proofs.Masks.{masks, none-below, no-stray, all-left}
+use Rattle.reader.specs.Masks.{namedBits}
+use Rattle.reader.proofs.Masks.{none-below, no-stray, all-left}
 use Rattle.reader.proofs.Laws.{reads-noop, reads, refuses, form-10, form-11, form-12, form-rest}
 use Rattle.writer.specs.declared.Written.{Written}
 use Rattle.writer.specs.Writing.{askedOf, writtenOf}
@@ -36,24 +37,24 @@ abbrev fieldsOf : ℕ → List Field
 fieldsOf code = opCode ∷ engineSelect ∷ writeFlag ∷ payloadOf code
 
 -- one computed test: the fields of every op code go down from the top, and its mask is theirs
-table-fits : someBelow 16 (λ code. not (goDown 64 (fieldsOf code) && eqb (getD masks code 0) (maskOf (fieldsOf code)))) ≡ false
-unfolding masks
+table-fits : someBelow 16 (λ code. not (goDown 64 (fieldsOf code) && eqb (getD namedBits code 0) (maskOf (fieldsOf code)))) ≡ false
+unfolding namedBits
 table-fits = refl
 
 both : {a b : Bool} → (a && b) ≡ true → (a ≡ true) × (b ≡ true)
 both {a = true} e = (refl, e)
 both {a = false} e = (e, cc)
 
-row : (code : ℕ) → code < 16 → Down 64 (fieldsOf code) × (getD masks code 0 ≡ maskOf (fieldsOf code))
+row : (code : ℕ) → code < 16 → Down 64 (fieldsOf code) × (getD namedBits code 0 ≡ maskOf (fieldsOf code))
 row code h =
-    let t = both {a = goDown 64 (fieldsOf code)} (not-false _ (none-below 16 (λ c. not (goDown 64 (fieldsOf c) && eqb (getD masks c 0) (maskOf (fieldsOf c)))) table-fits code h)) in
+    let t = both {a = goDown 64 (fieldsOf code)} (not-false _ (none-below 16 (λ c. not (goDown 64 (fieldsOf c) && eqb (getD namedBits c 0) (maskOf (fieldsOf c)))) table-fits code h)) in
     (down-of 64 (fieldsOf code) (t .0), eqb-true _ _ (t .1))
 
 code-small : (w : ℕ) → codeIn w < 16
 code-small w = omega arith
 
 -- what the mask of its op code leaves of a word is the sum of its fields
-left-sum : (w : ℕ) → bitAnd w (getD masks (codeIn w) 0) ≡ sumOf (fieldsOf (codeIn w)) (heldIn w (fieldsOf (codeIn w)))
+left-sum : (w : ℕ) → bitAnd w (getD namedBits (codeIn w) 0) ≡ sumOf (fieldsOf (codeIn w)) (heldIn w (fieldsOf (codeIn w)))
 left-sum w =
     let r = row (codeIn w) (code-small w) in
     ap (bitAnd w) (r .1) ∙ and-sum w (r .0)
