@@ -1,8 +1,9 @@
 -- The move of a word, by its op code.
 -- Assumes nothing.
-use Prim.Native.Nat.{ℕ, zero, suc}
+use Prim.Native.Nat.{ℕ, zero, suc, _<_}
 use mathlib.Core.Path.{_≡_, refl, sym, ap, _∙_}
 use mathlib.Core.List.{List}
+use native.Mathlib.Omega.{arith}
 use Rattle.instruction.specs.Table.{bodyOf}
 use Rattle.instruction.specs.Word.{codeIn, valuesIn, spelledBy}
 use Rattle.flow.specs.declared.Move.{Move}
@@ -33,3 +34,9 @@ other-code (suc (suc (suc (suc (suc (suc (suc (suc (suc (suc (suc (suc (suc n)))
 -- of one without a rule of its own
 pub move-other : (w : ℕ) {n : ℕ} → n ≡ codeIn w → (n ≡ 4 → ⊥) → (n ≡ 5 → ⊥) → (n ≡ 6 → ⊥) → (n ≡ 7 → ⊥) → (n ≡ 8 → ⊥) → Other ≡ moveOf (spelledBy w .body)
 move-other w {n} e h4 h5 h6 h7 h8 = sym (other-code n (valuesIn n w) h4 h5 h6 h7 h8) ∙ move-at w e refl
+
+pub move-low : (w : ℕ) {n : ℕ} → n ≡ codeIn w → n < 4 → moveOf (spelledBy w .body) ≡ Other
+move-low w e l = sym (move-other w e (λ h. omega arith) (λ h. omega arith) (λ h. omega arith) (λ h. omega arith) (λ h. omega arith))
+
+pub move-high : (w : ℕ) {n : ℕ} → n ≡ codeIn w → 8 < n → moveOf (spelledBy w .body) ≡ Other
+move-high w e l = sym (move-other w e (λ h. omega arith) (λ h. omega arith) (λ h. omega arith) (λ h. omega arith) (λ h. omega arith))

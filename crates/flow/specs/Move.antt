@@ -1,5 +1,7 @@
 -- What an instruction is to the walk: five names have a rule of their own in H8, the others go on to the next address.
 use Prim.Native.Nat.{ℕ}
+use mathlib.Core.Path.{_≡_}
+use mathlib.Core.Bool.{Bool, true}
 use mathlib.Core.List.{List}
 use lib.ListN.{getD}
 use Rattle.instruction.specs.Word.{spelledBy}
@@ -27,3 +29,7 @@ moveOf body.Noop = Other
 -- the move of the word at an address; the walk is defined for words that pass form, which read as what their fields spell
 abbrev pub moveAt : List ℕ → ℕ → Move
 moveAt words a = moveOf (spelledBy (getD words a 0) .body)
+
+-- a test that holds only for words that go on to the next address
+abbrev pub GoesOn : ℕ → Bool → Type 0
+GoesOn word b = b ≡ true → moveOf (spelledBy word .body) ≡ Other

@@ -50,9 +50,13 @@ pub fn judge(words: &[u64], marks: &[u64], limit: u64) -> Verdict
     ensures { λ r. ⌜ FlowIs limit (now (words .entry)) (r .refusal .number) (r .place) ⌝ }
 {
     let n = words.len();
+    let mut back: u64 = 0;
     let mut a: usize = 0;
     while a < n {
-        let k = fault_of(Move::at(words[a]), marks[a], limit);
+        let o = Move::at(words[a]);
+        let m = marks[a];
+        back = back | walk::back_of(o, m);
+        let k = fault_of(o, m, limit);
         if k != 0 {
             return Verdict {
                 refusal: Refusal { number: k },
@@ -61,7 +65,6 @@ pub fn judge(words: &[u64], marks: &[u64], limit: u64) -> Verdict
         }
         a += 1;
     }
-    let back = walk::returned(words, marks);
     let e = n - 1;
     let f = Moves::of(Move::at(words[e]), marks[e], back, limit);
     let x = f.next;

@@ -1,7 +1,7 @@
 -- The laws of marks that grow, and that closed marks are the least set.
 -- Assumes nothing.
 use Prim.Native.Nat.{ℕ, zero, suc, _+_, _-_, _*_, _^_, _≤_, _<_}
-use mathlib.Core.Path.{_≡_, refl, sym, subst, _∙_}
+use mathlib.Core.Path.{_≡_, refl, sym, ap, subst, _∙_}
 use mathlib.Core.Logic.{⊎-elim}
 use mathlib.Core.Bool.{Bool, true, false, _&&_}
 use mathlib.Core.List.{List, [], _∷_}
@@ -21,7 +21,7 @@ use Rattle.flow.specs.Move.{moveAt}
 use Rattle.flow.specs.Walk.{deepest, On, place, Reached, start}
 use Rattle.flow.proofs.Rules.{Onward, plain-on, cmp-on, goto-on, call-on, return-on, repeat-on, Leaps, goto-to, call-to, repeat-to, Walked, begin, on, over, back, walked, reached}
 use Rattle.flow.proofs.Bits.{or-left, or-right, or-on, zero-off, high-off, on-bare, bare-on, next-on, back-on, jump-on, Came, stepped, returned, on-next, Leapt, leapt, on-jump}
-use Rattle.walk.specs.Marks.{Exact, Sound, Backs, left, rest, HoldsAt, Put, same, more, Grew, ClosedAt, Turned, moved, still, Tells, holds, fails, backIn, Returns, Cleared, Part, Visits, VisitDone, TurnIs, ahead, hint, ended, Room, FollowDone, Since, fresh, since, AtHand, OpenIs, closed, first, load}
+use Rattle.walk.specs.Marks.{Exact, Sound, Backs, left, rest, HoldsAt, Put, same, more, Grew, ClosedAt, Turned, moved, still, Tells, holds, fails, backIn, Returns, Cleared, Part, Ahead, Visits, VisitDone, TurnIs, onward, hint, ended, Room, FollowDone, Since, fresh, since, AtHand, OpenIs, closed, first, load}
 use Rattle.walk.specs.declared.Trail.{Trail}
 use Rattle.sequence.specs.Bounds.{wordLimit}
 
@@ -247,9 +247,9 @@ visit-turned lim ws r ms a q {ns} {os} {v} {w} fit long rose eq p j g h = onBack
 pub visit-law : (lim : ℕ) (ws : List ℕ) (r : ℕ) (ms : List ℕ) (a m q x y t : ℕ) {ns os : List ℕ} {v w : ℕ} → length ws ≤ length ms → a < length ws → Part ms a m → ((q ≡ r → ⊥) → 2 ^ 64 - q < 2 ^ 64 - r)
     → q ≡ bitOr r (backIn (moveAt ws a) m) → x ≡ nextOf (moveAt ws a) m q → y ≡ jumpOf lim (moveAt ws a) m → t ≡ toOf (moveAt ws a)
     → Put (length ws) ms (a + 1) x ns v → Put (length ws) ns t y os w
-    → Visits lim ws r ms a m q os v
+    → Visits lim ws r ms a m q os v t w
 visit-law lim ws r ms a m q x y t {ns} {os} {v} {w} fit l sub rose eq ex ey et p j =
-    record { grew = grew-trans (grew-trans g₀ g) h; turned = whole; onward = onward }
+    record { grew = grew-trans (grew-trans g₀ g) h; turned = whole; next = next; jump = jump }
   where
     o : Move
     o = moveAt ws a
@@ -278,13 +278,38 @@ visit-law lim ws r ms a m q x y t {ns} {os} {v} {w} fit l sub rose eq ex ey et p
         g
         h
 
-    onward : (v ≡ 0 → ⊥) → (rest os q < rest ms r) × (a + 1 < length ws) × Part os (a + 1) v
-    onward z =
-        let f : left ns < left ms = put-left (length ws) ms (a + 1) (nextOf o m q) fit p′ z in
+    next : (v ≡ 0 → ⊥) → Ahead ws r ms q os (a + 1) v
+    next z =
+        let f : left ns < left ms = put-left (length ws) ms (a + 1) x fit p z in
         let u : rest os q ≤ rest ns q = h .less in
         let k : rest ms q ≤ rest ms r = g₀ .less in
-        let i = put-at (length ws) ms (a + 1) (nextOf o m q) fit p′ z in
+        let i = put-at (length ws) ms (a + 1) x fit p z in
         (omega arith, i .0, λ b c. h .kept (a + 1) b (subst (λ (y : ℕ). On b y) (sym (i .1)) c))
+
+    jump : (w ≡ 0 → ⊥) → Ahead ws r ms q os t w
+    jump z =
+        let long : length ns ≡ length ms = g .long in
+        let fit′ : length ws ≤ length ns = omega arith in
+        let f : left os < left ns = put-left (length ws) ns t y fit′ j z in
+        let u : rest ns q ≤ rest ms q = g .less in
+        let k : rest ms q ≤ rest ms r = g₀ .less in
+        let i = put-at (length ws) ns t y fit′ j z in
+        (omega arith, i .0, λ b c. subst (λ (y : ℕ). On b y) (sym (i .1)) c)
+
+pub or-zero : (r : ℕ) → bitOr r 0 ≡ r
+or-zero r = omega (arith, or-add-and r 0, and-le-r r 0)
+
+-- a word that goes on to the next address puts its mark there
+pub visit-plain : (lim : ℕ) (ws : List ℕ) (r : ℕ) (ms : List ℕ) (a m : ℕ) {ns : List ℕ} {v : ℕ} → length ws ≤ length ms → a < length ws → Part ms a m → moveAt ws a ≡ Other
+    → Put (length ws) ms (a + 1) m ns v → Visits lim ws r ms a m r ns v 0 0
+visit-plain lim ws r ms a m {ns} fit l sub e p =
+    visit-law lim ws r ms a m r m 0 0 fit l sub (λ z. absurd (z refl))
+    (sym (or-zero r) ∙ ap (λ (z : Move). bitOr r (backIn z m)) (sym e))
+    (ap (λ (z : Move). nextOf z m r) (sym e))
+    (ap (λ (z : Move). jumpOf lim z m) (sym e))
+    (ap toOf (sym e))
+    p
+    (same (held-zero (length ws) ns 0 0 refl))
 
 -- ---- no place is deeper than the limit
 
@@ -399,6 +424,21 @@ tells-closed lim ws r ms a b x y t {c} {d} eb ex ey et u v = tells-as to from (t
       subst (λ (z : ℕ). HoldsAt (length ws) ms t z) (sym ey) (subst (λ (z : ℕ). HoldsAt (length ws) ms z (jumpOf lim (moveAt ws a) (getD ms a 0))) (sym et) (k .jump)),
     )
 
+-- a word that goes on to the next address
+pub tells-plain : (lim : ℕ) (ws : List ℕ) (r : ℕ) (ms : List ℕ) (a : ℕ) {c : Bool} → moveAt ws a ≡ Other → Tells (HoldsAt (length ws) ms (a + 1) (getD ms a 0)) c → Tells (ClosedAt lim ws r ms a) c
+tells-plain lim ws r ms a e u = tells-as to from u
+  where
+    to : HoldsAt (length ws) ms (a + 1) (getD ms a 0) → ClosedAt lim ws r ms a
+    to h =
+        record {
+          met = ap (λ (z : Move). bitOr r (backIn z (getD ms a 0))) e ∙ or-zero r;
+          next = subst (λ (z : Move). HoldsAt (length ws) ms (a + 1) (nextOf z (getD ms a 0) r)) (sym e) h;
+          jump = subst (λ (z : Move). HoldsAt (length ws) ms (toOf z) (jumpOf lim z (getD ms a 0))) (sym e) (held-zero (length ws) ms 0 0 refl);
+        }
+
+    from : ClosedAt lim ws r ms a → HoldsAt (length ws) ms (a + 1) (getD ms a 0)
+    from k = subst (λ (z : Move). HoldsAt (length ws) ms (a + 1) (nextOf z (getD ms a 0) r)) e (k .next)
+
 pub closed-more : (lim : ℕ) (ws : List ℕ) (r : ℕ) (ms : List ℕ) (a : ℕ) → ((k : ℕ) → k < a → ClosedAt lim ws r ms k) → ClosedAt lim ws r ms a → (k : ℕ) → k < a + 1 → ClosedAt lim ws r ms k
 closed-more lim ws r ms a all here k l =
     ⊎-elim (λ e. subst (λ (z : ℕ). ClosedAt lim ws r ms z) (sym e) here) (λ h. all k h) (eq-or-lt-of-le (le-of-suc-le-suc (subst (λ (z : ℕ). k < z) (add-one a) l)))
@@ -406,12 +446,12 @@ closed-more lim ws r ms a all here k l =
 -- ---- following
 
 turn-back : {n : ℕ} {ms : List ℕ} {v t : Trail} → TurnIs n ms v t → t .back ≡ v .back
-turn-back (ahead z) = refl
+turn-back (onward z) = refl
 turn-back (hint r b h m) = b
 turn-back (ended r b e) = b
 
 pub turn-room : {n : ℕ} {ms : List ℕ} {v t : Trail} → Room v → TurnIs n ms v t → Room t
-turn-room r (ahead z) = r
+turn-room r (onward z) = r
 turn-room r (hint q b h m) = q
 turn-room r (ended q b e) = q
 
@@ -421,28 +461,26 @@ turned-on (still k) h = still k
 
 module _ {lim : ℕ} {ws ms : List ℕ} {s : Trail} {ns : List ℕ} {v t : Trail} (d : VisitDone lim ws ms s ns v) (u : TurnIs (length ws) ns v t) where
   turn-grew : Grew lim ws (s .back) ms (t .back) ns
-  turn-grew = subst (λ (z : ℕ). Grew lim ws (s .back) ms z ns) (sym (turn-back u)) (d .visits .grew)
+  turn-grew = subst (λ (z : ℕ). Grew lim ws (s .back) ms z ns) (sym (turn-back u)) (d .grew)
 
   pub since-more : {ms₀ : List ℕ} {s₀ : Trail} → Since lim ws ms₀ s₀ ms s → FollowDone lim ws ms₀ s₀ ns t
   since-more fresh =
       record {
         room = turn-room (d .room) u;
         grew = turn-grew;
-        turned = λ e. subst (λ (z : ℕ). Turned lim ws (s .back) ms z ns (s .at)) (sym (turn-back u)) (d .visits .turned e);
+        turned = λ e. subst (λ (z : ℕ). Turned lim ws (s .back) ms z ns (s .at)) (sym (turn-back u)) (d .turned e);
       }
   since-more (since f) = record { room = turn-room (d .room) u; grew = grew-trans (f .grew) turn-grew; turned = λ e. turned-on (f .turned e) (turn-grew .less) }
 
 pub turn-hand : {lim : ℕ} {ws ms : List ℕ} {s : Trail} {ns : List ℕ} {v t : Trail} → VisitDone lim ws ms s ns v → TurnIs (length ws) ns v t → t .at < length ws → AtHand ws ns t
-turn-hand {ns = ns} {v = v} d (ahead z) l =
-    let w = d .visits .onward z in
-    record { below = l; part = subst (λ (a : ℕ). Part ns a (v .mark)) (sym (d .at)) (w .2) }
+turn-hand d (onward z) l = record { below = l; part = d .ahead z .2 }
 turn-hand {ns = ns} d (hint {t = t} r b h m) l = record { below = l; part = λ k p. subst (λ (z : ℕ). On k z) m p }
 turn-hand d (ended r b e) l = absurd (omega arith)
 
 pub turn-fell : {lim : ℕ} {ws ms : List ℕ} {s : Trail} {ns : List ℕ} {v t : Trail} → VisitDone lim ws ms s ns v → TurnIs (length ws) ns v t → t .at < length ws
     → load ns (t .back) (t .hints) < load ms (s .back) (s .hints)
-turn-fell {s = s} {v = v} d (ahead z) l =
-    let w : rest _ (v .back) < rest _ (s .back) = d .visits .onward z .0 in
+turn-fell {s = s} {v = v} d (onward z) l =
+    let w : rest _ (v .back) < rest _ (s .back) = d .ahead z .0 in
     let r : v .hints ≤ wordLimit = d .room .hints in
     omega arith
 turn-fell {ms = ms} {s = s} {ns = ns} {v = v} d (hint {t = t} r b h m) l =

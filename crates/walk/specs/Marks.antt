@@ -131,21 +131,27 @@ pub record CanVisit (ws ms : List ℕ) (lim : ℕ) (s : Trail) : Type 0 where
   pub limit : lim ≤ deepest
   pub hand : AtHand ws ms s
 
--- a visit of address a with mark m: the depths q and marks ns after it, and v for the next address
-pub record Visits (lim : ℕ) (ws : List ℕ) (r : ℕ) (ms : List ℕ) (a m q : ℕ) (ns : List ℕ) (v : ℕ) : Type 0 where
+-- a bit was set at a word's address, of which a mark at hand is part
+abbrev pub Ahead : List ℕ → ℕ → List ℕ → ℕ → List ℕ → ℕ → ℕ → Type 0
+Ahead ws r ms q ns a m = (rest ns q < rest ms r) × (a < length ws) × Part ns a m
+
+-- a visit of address a with mark m: the depths q and marks ns after it, with v put at the next address and w at the target t
+pub record Visits (lim : ℕ) (ws : List ℕ) (r : ℕ) (ms : List ℕ) (a m q : ℕ) (ns : List ℕ) (v t w : ℕ) : Type 0 where
   pub grew : Grew lim ws r ms q ns
   pub turned : m ≡ getD ms a 0 → Turned lim ws r ms q ns a
-  pub onward : (v ≡ 0 → ⊥) → (rest ns q < rest ms r) × (a + 1 < length ws) × Part ns (a + 1) v
+  pub next : (v ≡ 0 → ⊥) → Ahead ws r ms q ns (a + 1) v
+  pub jump : (w ≡ 0 → ⊥) → Ahead ws r ms q ns t w
 
 pub record VisitDone (lim : ℕ) (ws ms : List ℕ) (s : Trail) (ns : List ℕ) (t : Trail) : Type 0 where
   pub room : Room t
-  pub at : t .at ≡ s .at + 1
-  pub visits : Visits lim ws (s .back) ms (s .at) (s .mark) (t .back) ns (t .mark)
+  pub grew : Grew lim ws (s .back) ms (t .back) ns
+  pub turned : s .mark ≡ getD ms (s .at) 0 → Turned lim ws (s .back) ms (t .back) ns (s .at)
+  pub ahead : (t .mark ≡ 0 → ⊥) → Ahead ws (s .back) ms (t .back) ns (t .at) (t .mark)
   pub fell : load ns (t .back) (t .hints) ≤ load ms (s .back) (s .hints)
 
--- on to the next address, or to one of the hints, or to none
+-- on where a bit was set, or to one of the hints, or to none
 pub data TurnIs (n : ℕ) (ms : List ℕ) (s : Trail) : Trail → Type 0 where
-  ahead : (s .mark ≡ 0 → ⊥) → TurnIs n ms s s
+  onward : (s .mark ≡ 0 → ⊥) → TurnIs n ms s s
   hint : {t : Trail} → Room t → t .back ≡ s .back → t .hints < s .hints → t .mark ≡ getD ms (t .at) 0 → TurnIs n ms s t
   ended : {t : Trail} → Room t → t .back ≡ s .back → t .at ≡ n → TurnIs n ms s t
 

@@ -228,12 +228,33 @@ fn visit(
 {
     let n = words.len();
     let a = s.at;
-    let o = Move::at(words[a]);
+    let word = words[a];
+    let next = a + 1;
+    if Move::goes_on(word) {
+        let mark = put(n, marks, next, s.mark);
+        return Trail {
+            hints: s.hints,
+            calls: s.calls,
+            back: s.back,
+            at: next,
+            mark,
+        };
+    }
+    let o = Move::at(word);
     let t = note(marks, stack, known, calls, s, o);
     let f = Moves::of(o, s.mark, t.back, limit);
-    let next = a + 1;
     let to = f.to as usize;
     let mark = put(n, marks, next, f.next);
+    if mark == 0 {
+        let there = put(n, marks, to, f.jump);
+        return Trail {
+            hints: t.hints,
+            calls: t.calls,
+            back: t.back,
+            at: to,
+            mark: there,
+        };
+    }
     let hints = leap(n, marks, stack, known, t.hints, to, f.jump);
     Trail {
         hints,
@@ -343,8 +364,12 @@ fn is_closed(words: &[u64], marks: &[u64], a: usize, back: u64, limit: u64) -> b
     ensures { λ r. ⌜ Tells (ClosedAt limit (now (words .entry)) back (now (marks .entry)) a) r ⌝ }
 {
     let n = words.len();
-    let o = Move::at(words[a]);
+    let word = words[a];
     let m = marks[a];
+    if Move::goes_on(word) {
+        return holds(n, marks, a + 1, m);
+    }
+    let o = Move::at(word);
     let f = Moves::of(o, m, back, limit);
     let to = f.to as usize;
     let met = (back | back_of(o, m)) == back;
@@ -369,7 +394,7 @@ fn first_open(words: &[u64], marks: &[u64], back: u64, limit: u64) -> usize
 }
 
 // The depths of a mark, where the word is a RETURN.
-fn back_of(o: Move, m: u64) -> u64
+pub fn back_of(o: Move, m: u64) -> u64
     ensures { λ r. ⌜ r ≡ backIn o m ⌝ }
 {
     match o {

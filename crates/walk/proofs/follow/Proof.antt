@@ -23,7 +23,7 @@ visit-requires c κs = let i = c .before .before .before .before .loop .inv in r
 turn-requires : tie.Need-turn-requires Inv-loop μ-loop
 turn-requires c κs =
     let v = c .before .before .before .before .before .visit in
-    let g = v .ensures .visits .grew .long in
+    let g = v .ensures .grew .long in
     let i = c .before .before .before .before .before .before .before .before .before .before .loop .inv .0 in (omega (arith, g, i), v .ensures .room)
 
 same-length : tie.Need-same-length Inv-loop μ-loop
@@ -40,7 +40,7 @@ loop-again c =
     let v = c .before .before .before .before .before .before .before .before .visit .ensures in
     let t = c .before .before .turn .ensures in
     let l = c .before .before .before .before .before .before .before .before .before .before .before .before .before .loop in
-    let g = v .visits .grew .long in
+    let g = v .grew .long in
     let i = l .inv .0 in (omega (arith, g, i), turn-room (v .room) t, turn-hand v t (c .if1 .left), since (since-more v t (l .inv .3)))
 
 pub follow-spec : {M : Type 1} → statement M

@@ -3,13 +3,13 @@ use Prim.Native.Nat.{_-_}
 use mathlib.Core.Path.{refl}
 use native.Mathlib.Omega.{arith}
 use lib.ListN.{getD}
-use Rattle.walk.specs.Marks.{ahead, hint, ended}
+use Rattle.walk.specs.Marks.{onward, hint, ended}
 use borrow.Author.Needs.{needs}
 use Rattle.walk.proofs.turn.Statement.{statement}
 use Rattle.walk.proofs.turn.Tie as tie
 
 returns : tie.Need-returns
-returns c = ahead (c .if1 .taken)
+returns c = onward (c .if1 .taken)
 
 returns-2 : tie.Need-returns-2
 returns-2 c = ended {t = record { hints = 0; calls = c .before .before .before .before .before .args .s .calls; back = c .before .before .before .before .before .args .s .back; at = c .before .before .before .before .before .args .n; mark = 0 }} (record { hints = omega (arith, c .before .before .before .before .before .pre .1 .hints); calls = c .before .before .before .before .before .pre .1 .calls }) refl refl

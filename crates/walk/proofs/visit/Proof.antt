@@ -1,22 +1,44 @@
--- Two puts, of what the word leads to.
-use mathlib.Core.Path.{refl, ap, _∙_}
+-- A word that goes on puts its mark; another, what it leads to. Where the next address has nothing new, the target is at hand.
+use Prim.Native.Nat.{_≤_}
+use mathlib.Core.Path.{ap, _∙_}
 use native.Mathlib.Omega.{arith}
 use lib.ListN.{length}
-use Prim.Native.Nat.{_≤_}
 use lib.Bits.{bitOr}
 use Rattle.flow.specs.declared.Move.{Move}
 use Rattle.flow.specs.Masks.{nextOf, jumpOf, toOf}
 use Rattle.walk.specs.Marks.{backIn, left}
-use Rattle.walk.proofs.Laws.{visit-law, put-less}
+use Rattle.walk.proofs.Laws.{visit-law, visit-plain, put-less}
 use borrow.Author.Needs.{needs}
 use Rattle.walk.proofs.visit.Statement.{statement}
 use Rattle.walk.proofs.visit.Tie as tie
 
-mul-at : tie.Need-mul-at
-mul-at c = search needs
+mul-word : tie.Need-mul-word
+mul-word c = search needs
 
-shared-slice-read-at : tie.Need-shared-slice-read-at
-shared-slice-read-at c = search needs
+shared-slice-read-word : tie.Need-shared-slice-read-word
+shared-slice-read-word c = search needs
+
+add-next : tie.Need-add-next
+add-next c = search needs
+
+goes-on-requires : tie.Need-goes-on-requires
+goes-on-requires c κs = search needs
+
+put-requires : tie.Need-put-requires
+put-requires c κs = search needs
+
+same-length : tie.Need-same-length
+same-length c = search needs
+
+returns : tie.Need-returns
+returns c =
+    let s = c .before .before .before .before .before .before .before .before .before .args in
+    let pre = c .before .before .before .before .before .before .before .before .before .pre in
+    let h = s .s in
+    let p = c .before .before .put .ensures in
+    let less : left (c .before .before .put .last .1 .0) ≤ left (s .marks .now) = put-less (length (s .words .now)) (s .marks .now) _ _ p in
+    let w = visit-plain (s .limit) (s .words .now) (h .back) (s .marks .now) (h .at) (h .mark) (pre .marks) (pre .hand .below) (pre .hand .part) (c .before .before .before .before .before .goes-on .ensures (c .before .before .before .before .if1 .taken)) p in
+    record { room = record { hints = pre .room .hints; calls = pre .room .calls }; grew = w .grew; turned = w .turned; ahead = w .next; fell = omega (arith, less) }
 
 at-requires : tie.Need-at-requires
 at-requires c κs = search needs
@@ -27,55 +49,84 @@ note-requires c κs = search needs
 of-requires : tie.Need-of-requires
 of-requires c κs = search needs
 
-add-next : tie.Need-add-next
-add-next c = search needs
+put-requires-2 : tie.Need-put-requires-2
+put-requires-2 c κs = search needs
 
-put-requires : tie.Need-put-requires
-put-requires c κs = search needs
+put-requires-3 : tie.Need-put-requires-3
+put-requires-3 c κs = search needs
+
+same-length-2 : tie.Need-same-length-2
+same-length-2 c = search needs
+
+returns-2 : tie.Need-returns-2
+returns-2 c =
+    let t = c .before .before .before .before .before .before .before .before .before .before .note in
+    let f = c .before .before .before .before .before .before .before .before .before .of in
+    let o = c .before .before .before .before .before .before .before .before .before .before .before .before .before .before .before .at .ensures in
+    let s = c .before .before .before .before .before .before .before .before .before .before .before .before .before .before .before .before .before .before .before .before .before .args in
+    let pre = c .before .before .before .before .before .before .before .before .before .before .before .before .before .before .before .before .before .before .before .before .before .pre in
+    let ms = s .marks .now in
+    let h = s .s in
+    let p = c .before .before .before .before .before .before .before .put2 .ensures in
+    let less : left (c .before .before .before .before .before .before .before .put2 .last .1 .0) ≤ left ms = put-less (length (s .words .now)) ms _ _ p in
+    let j = c .before .before .put3 .ensures in
+    let less′ : left (c .before .before .put3 .last .1 .0) ≤ left (c .before .before .before .before .before .before .before .put2 .last .1 .0) = put-less (length (s .words .now)) _ _ _ j in
+    let w =
+    visit-law (s .limit) (s .words .now) (h .back) ms (h .at) (h .mark) (t .result .back) (f .result .next) (f .result .jump) (f .result .to) (pre .marks) (pre .hand .below) (pre .hand .part) (t .ensures .rose)
+    (t .ensures .back ∙ ap (λ (z : Move). bitOr (h .back) (backIn z (h .mark))) o)
+    (f .ensures .next ∙ ap (λ (z : Move). nextOf z (h .mark) (t .result .back)) o)
+    (f .ensures .jump ∙ ap (λ (z : Move). jumpOf (s .limit) z (h .mark)) o)
+    (f .ensures .to ∙ ap toOf o)
+    p
+    j
+    in record { room = record { hints = t .ensures .room .hints; calls = t .ensures .room .calls }; grew = w .grew; turned = w .turned; ahead = w .jump; fell = omega (arith, less′, less, t .ensures .fell) }
 
 leap-requires : tie.Need-leap-requires
 leap-requires c κs = search needs
 
-same-length : tie.Need-same-length
-same-length c = search needs
+same-length-3 : tie.Need-same-length-3
+same-length-3 c = search needs
 
-returns : tie.Need-returns
-returns c =
-    let j = c .before .before .leap .ensures in
-    let p = c .before .before .before .before .before .before .before .before .put .ensures in
-    let f = c .before .before .before .before .before .before .before .before .before .before .of in
-    let t = c .before .before .before .before .before .before .before .before .before .before .before .note in
-    let o = c .before .before .before .before .before .before .before .before .before .before .before .before .before .before .before .before .at .ensures in
-    let s = c .before .before .before .before .before .before .before .before .before .before .before .before .before .before .before .before .before .before .before .before .args in
-    let pre = c .before .before .before .before .before .before .before .before .before .before .before .before .before .before .before .before .before .before .before .before .pre in
+returns-3 : tie.Need-returns-3
+returns-3 c =
+    let t = c .before .before .before .before .before .before .before .before .before .before .before .before .note in
+    let f = c .before .before .before .before .before .before .before .before .before .before .before .of in
+    let o = c .before .before .before .before .before .before .before .before .before .before .before .before .before .before .before .before .before .at .ensures in
+    let s = c .before .before .before .before .before .before .before .before .before .before .before .before .before .before .before .before .before .before .before .before .before .before .before .args in
+    let pre = c .before .before .before .before .before .before .before .before .before .before .before .before .before .before .before .before .before .before .before .before .before .before .before .pre in
     let ms = s .marks .now in
     let h = s .s in
-    let less : left (c .before .before .before .before .before .before .before .before .put .last .1 .0) ≤ left ms = put-less (length (s .words .now)) ms _ _ p in
-    record {
-      room = record { hints = j .room; calls = t .ensures .room .calls };
-      at = refl;
-      visits =
-          visit-law (s .limit) (s .words .now) (h .back) ms (h .at) (h .mark) (t .result .back) (f .result .next) (f .result .jump) (f .result .to) (pre .marks) (pre .hand .below) (pre .hand .part) (t .ensures .rose)
-          (t .ensures .back ∙ ap (λ (z : Move). bitOr (h .back) (backIn z (h .mark))) o)
-          (f .ensures .next ∙ ap (λ (z : Move). nextOf z (h .mark) (t .result .back)) o)
-          (f .ensures .jump ∙ ap (λ (z : Move). jumpOf (s .limit) z (h .mark)) o)
-          (f .ensures .to ∙ ap toOf o)
-          p
-          (j .put .1);
-      fell = omega (arith, j .fell, less, t .ensures .fell);
-    }
+    let p = c .before .before .before .before .before .before .before .before .before .put2 .ensures in
+    let less : left (c .before .before .before .before .before .before .before .before .before .put2 .last .1 .0) ≤ left ms = put-less (length (s .words .now)) ms _ _ p in
+    let j = c .before .before .leap .ensures in
+    let w =
+    visit-law (s .limit) (s .words .now) (h .back) ms (h .at) (h .mark) (t .result .back) (f .result .next) (f .result .jump) (f .result .to) (pre .marks) (pre .hand .below) (pre .hand .part) (t .ensures .rose)
+    (t .ensures .back ∙ ap (λ (z : Move). bitOr (h .back) (backIn z (h .mark))) o)
+    (f .ensures .next ∙ ap (λ (z : Move). nextOf z (h .mark) (t .result .back)) o)
+    (f .ensures .jump ∙ ap (λ (z : Move). jumpOf (s .limit) z (h .mark)) o)
+    (f .ensures .to ∙ ap toOf o)
+    p
+    (j .put .1)
+    in record { room = record { hints = j .room; calls = t .ensures .room .calls }; grew = w .grew; turned = w .turned; ahead = w .next; fell = omega (arith, j .fell, less, t .ensures .fell) }
 
 pub visit-spec : {M : Type 1} → statement M
 visit-spec =
     tie.close
     (tie.spec
-    mul-at
-    shared-slice-read-at
+    mul-word
+    shared-slice-read-word
+    add-next
+    goes-on-requires
+    put-requires
+    same-length
+    returns
     at-requires
     note-requires
     of-requires
-    add-next
-    put-requires
+    put-requires-2
+    put-requires-3
+    same-length-2
+    returns-2
     leap-requires
-    same-length
-    returns)
+    same-length-3
+    returns-3)
