@@ -1,10 +1,10 @@
 -- What an instruction is to the walk: five names have a rule of their own in H8, the others go on to the next address.
 use Prim.Native.Nat.{ℕ}
-use mathlib.Core.Path.{_≡_}
-use mathlib.Core.Bool.{Bool, true}
+use mathlib.Core.Bool.{Bool, _||_}
 use mathlib.Core.List.{List}
+use lib.Dec.{ltb}
 use lib.ListN.{getD}
-use Rattle.instruction.specs.Word.{spelledBy}
+use Rattle.instruction.specs.Word.{codeIn, spelledBy}
 use Rattle.instruction.specs.declared.Body.{Body}
 use Rattle.instruction.specs.declared.Body.the-variants as body
 use Rattle.flow.specs.declared.Move.{Move}
@@ -30,6 +30,6 @@ moveOf body.Noop = Other
 abbrev pub moveAt : List ℕ → ℕ → Move
 moveAt words a = moveOf (spelledBy (getD words a 0) .body)
 
--- a test that holds only for words that go on to the next address
-abbrev pub GoesOn : ℕ → Bool → Type 0
-GoesOn word b = b ≡ true → moveOf (spelledBy word .body) ≡ Other
+-- an op code below REPEAT's or above RETURN's: the word goes on to the next address (proofs/Codes.antt)
+abbrev pub goesOn : ℕ → Bool
+goesOn word = ltb (codeIn word) 4 || ltb 8 (codeIn word)

@@ -3,7 +3,7 @@
 ghost use mathlib.Core.Path.{_≡_};
 ghost use Prim.Native.Nat.{_*_, _^_, _≤_};
 ghost use Rattle.instruction.specs.Word.{spelledBy};
-ghost use Rattle.flow.specs.Move.{moveOf, GoesOn};
+ghost use Rattle.flow.specs.Move.{moveOf, goesOn};
 ghost use Rattle.flow.specs.Walk.{deepest};
 ghost use Rattle.flow.specs.Masks.{bareOf, heldOf, deeperOf, Follows};
 use instruction::Body;
@@ -22,13 +22,10 @@ pub enum Move {
 impl Move {
     // Whether a word goes on to the next address and does nothing else: told of its op code alone.
     pub fn goes_on(word: u64) -> bool
-        ensures { λ r. ⌜ GoesOn word r ⌝ }
+        ensures { λ r. ⌜ r ≡ goesOn word ⌝ }
     {
         let code = Instruction::code_in(word);
-        if code < Body::REPEAT {
-            return true;
-        }
-        Body::RETURN < code
+        (code < Body::REPEAT) | (Body::RETURN < code)
     }
 
     // The move of a word. Five op codes have a rule of their own.

@@ -407,9 +407,6 @@ pub tells-closed : (lim : ℕ) (ws : List ℕ) (r : ℕ) (ms : List ℕ) (a b x 
     → Tells (ClosedAt lim ws r ms a) ((eqb (bitOr r b) r && c) && d)
 tells-closed lim ws r ms a b x y t {c} {d} eb ex ey et u v = tells-as to from (tells-and (tells-and (tells-eq (bitOr r b) r) u) v)
   where
-    n : ℕ
-    n = length ws
-
     to : ((bitOr r b ≡ r) × HoldsAt (length ws) ms (a + 1) x) × HoldsAt (length ws) ms t y → ClosedAt lim ws r ms a
     to w =
         record {

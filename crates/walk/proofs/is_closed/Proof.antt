@@ -1,8 +1,9 @@
 -- Three tests, of what the word leads to.
-use mathlib.Core.Path.{ap, _∙_}
+use mathlib.Core.Path.{sym, ap, _∙_}
 use lib.ListN.{getD}
 use Rattle.flow.specs.declared.Move.{Move}
 use Rattle.flow.specs.Masks.{nextOf, jumpOf, toOf}
+use Rattle.flow.proofs.Codes.{goes-on}
 use Rattle.walk.specs.Marks.{backIn}
 use Rattle.walk.proofs.Laws.{tells-closed, tells-plain}
 use borrow.Author.Needs.{needs}
@@ -33,7 +34,7 @@ holds-requires c κs = search needs
 returns : tie.Need-returns
 returns c =
     let s = c .before .before .before .before .before .before .before .args in
-    tells-plain (s .limit) (s .words .now) (s .back) (s .marks .now) (s .a) (c .before .before .goes-on .ensures (c .before .if1 .taken)) (c .holds .ensures)
+    tells-plain (s .limit) (s .words .now) (s .back) (s .marks .now) (s .a) (goes-on (getD (s .words .now) (s .a) 0) (sym (c .before .before .goes-on .ensures) ∙ c .before .if1 .taken)) (c .holds .ensures)
 
 at-requires : tie.Need-at-requires
 at-requires c κs = search needs

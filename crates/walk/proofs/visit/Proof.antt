@@ -1,11 +1,12 @@
 -- A word that goes on puts its mark; another, what it leads to. Where the next address has nothing new, the target is at hand.
 use Prim.Native.Nat.{_≤_}
-use mathlib.Core.Path.{ap, _∙_}
+use mathlib.Core.Path.{sym, ap, _∙_}
 use native.Mathlib.Omega.{arith}
-use lib.ListN.{length}
+use lib.ListN.{length, getD}
 use lib.Bits.{bitOr}
 use Rattle.flow.specs.declared.Move.{Move}
 use Rattle.flow.specs.Masks.{nextOf, jumpOf, toOf}
+use Rattle.flow.proofs.Codes.{goes-on}
 use Rattle.walk.specs.Marks.{backIn, left}
 use Rattle.walk.proofs.Laws.{visit-law, visit-plain, put-less}
 use borrow.Author.Needs.{needs}
@@ -37,7 +38,7 @@ returns c =
     let h = s .s in
     let p = c .before .before .put .ensures in
     let less : left (c .before .before .put .last .1 .0) ≤ left (s .marks .now) = put-less (length (s .words .now)) (s .marks .now) _ _ p in
-    let w = visit-plain (s .limit) (s .words .now) (h .back) (s .marks .now) (h .at) (h .mark) (pre .marks) (pre .hand .below) (pre .hand .part) (c .before .before .before .before .before .goes-on .ensures (c .before .before .before .before .if1 .taken)) p in
+    let w = visit-plain (s .limit) (s .words .now) (h .back) (s .marks .now) (h .at) (h .mark) (pre .marks) (pre .hand .below) (pre .hand .part) (goes-on (getD (s .words .now) (h .at) 0) (sym (c .before .before .before .before .before .goes-on .ensures) ∙ c .before .before .before .before .if1 .taken)) p in
     record { room = record { hints = pre .room .hints; calls = pre .room .calls }; grew = w .grew; turned = w .turned; ahead = w .next; fell = omega (arith, less) }
 
 at-requires : tie.Need-at-requires

@@ -1,6 +1,8 @@
--- Below and above the five codes.
-use borrow.Author.Tests.{ltb-true}
-use Rattle.flow.proofs.Codes.{move-low, move-high}
+-- The test is that of the op code.
+use Prim.Native.Nat.{ℕ}
+use mathlib.Core.Path.{ap}
+use mathlib.Core.Bool.{_||_}
+use lib.Dec.{ltb}
 use borrow.Author.Needs.{needs}
 use Rattle.flow.proofs.Move.goes_on.Statement.{statement}
 use Rattle.flow.proofs.Move.goes_on.Tie as tie
@@ -9,10 +11,7 @@ code-in-requires : tie.Need-code-in-requires
 code-in-requires c κs = search needs
 
 returns : tie.Need-returns
-returns c = λ z. move-low (c .before .before .args .word) (c .before .code-in .ensures) (c .if1 .taken)
-
-returns-2 : tie.Need-returns-2
-returns-2 c = λ z. move-high (c .before .before .args .word) (c .before .code-in .ensures) (ltb-true 8 (c .before .code-in .result) z)
+returns c = ap (λ (z : ℕ). ltb z 4 || ltb 8 z) (c .code-in .ensures)
 
 pub goes-on-spec : {M : Type 1} → statement M
-goes-on-spec = tie.close (tie.spec code-in-requires returns returns-2)
+goes-on-spec = tie.close (tie.spec code-in-requires returns)
