@@ -75,7 +75,9 @@ fn list(
 }
 
 // An address that was pushed or listed.
-fn entry(list: &[u16], i: usize) -> usize {
+fn entry(list: &[u16], i: usize) -> usize
+    ensures { λ r. ⌜ r < wordLimit ⌝ }
+{
     if list.len() <= i {
         return 0;
     }
@@ -213,8 +215,8 @@ fn leap(
     push(stack, known, len, at)
 }
 
-// All that the address at hand leads to, and the next address with its mark, which is 0 where no bit was set.
-fn visit(
+// All that the address at hand leads to: the target comes next where the next address has nothing new.
+fn branch(
     words: &[u64],
     marks: &mut [u64],
     stack: &mut [u16; Sequence::WORDS as usize],
@@ -228,19 +230,8 @@ fn visit(
 {
     let n = words.len();
     let a = s.at;
-    let word = words[a];
+    let o = Move::at(words[a]);
     let next = a + 1;
-    if Move::goes_on(word) {
-        let mark = put(n, marks, next, s.mark);
-        return Trail {
-            hints: s.hints,
-            calls: s.calls,
-            back: s.back,
-            at: next,
-            mark,
-        };
-    }
-    let o = Move::at(word);
     let t = note(marks, stack, known, calls, s, o);
     let f = Moves::of(o, s.mark, t.back, limit);
     let to = f.to as usize;
@@ -265,7 +256,69 @@ fn visit(
     }
 }
 
-// The next address, where its mark grew; else one taken from the hints; else n.
+// A visit: an address where a bit was set, with its mark; a mark of 0 where none was.
+fn visit(
+    words: &[u64],
+    marks: &mut [u64],
+    stack: &mut [u16; Sequence::WORDS as usize],
+    known: &mut [u8; Sequence::WORDS as usize],
+    calls: &mut [u16; Sequence::WORDS as usize],
+    s: Trail,
+    limit: u64,
+) -> Trail
+    requires { ⌜ CanVisit (now words) (now marks) limit s ⌝ }
+    ensures { λ r. ⌜ VisitDone limit (now (words .entry)) (now (marks .entry)) s (now (marks .exit)) r ⌝ }
+{
+    let a = s.at;
+    let word = words[a];
+    if !Move::goes_on(word) {
+        return branch(words, marks, stack, known, calls, s, limit);
+    }
+    let next = a + 1;
+    let mark = put(words.len(), marks, next, s.mark);
+    Trail {
+        hints: s.hints,
+        calls: s.calls,
+        back: s.back,
+        at: next,
+        mark,
+    }
+}
+
+// The address of the last hint, where there is one below n.
+fn take(
+    n: usize,
+    marks: &[u64],
+    stack: &[u16; Sequence::WORDS as usize],
+    known: &mut [u8; Sequence::WORDS as usize],
+    s: Trail,
+) -> Trail
+    requires { ⌜ (n ≤ length (now marks)) × Room s × (0 < s .hints) ⌝ }
+    ensures { λ r. ⌜ TurnIs n (now (marks .entry)) s r ⌝ }
+{
+    let top = s.hints - 1;
+    let at = entry(stack, top);
+    if n <= at {
+        return Trail {
+            hints: top,
+            calls: s.calls,
+            back: s.back,
+            at: n,
+            mark: 0,
+        };
+    }
+    known[at] = known[at] & Trail::LISTED;
+    let mark = marks[at];
+    Trail {
+        hints: top,
+        calls: s.calls,
+        back: s.back,
+        at,
+        mark,
+    }
+}
+
+// On, where a bit was set; else to one of the hints; else to n.
 fn turn(
     n: usize,
     marks: &[u64],
@@ -288,35 +341,7 @@ fn turn(
             mark: 0,
         };
     }
-    let top = s.hints - 1;
-    let at = entry(stack, top);
-    if Sequence::WORDS as usize <= at {
-        return Trail {
-            hints: top,
-            calls: s.calls,
-            back: s.back,
-            at: n,
-            mark: 0,
-        };
-    }
-    if n <= at {
-        return Trail {
-            hints: top,
-            calls: s.calls,
-            back: s.back,
-            at: n,
-            mark: 0,
-        };
-    }
-    known[at] = known[at] & Trail::LISTED;
-    let mark = marks[at];
-    Trail {
-        hints: top,
-        calls: s.calls,
-        back: s.back,
-        at,
-        mark,
-    }
+    take(n, marks, stack, known, s)
 }
 
 // From an address on, until no hint is left.

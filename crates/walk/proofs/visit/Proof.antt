@@ -1,14 +1,12 @@
--- A word that goes on puts its mark; another, what it leads to. Where the next address has nothing new, the target is at hand.
+-- A word that goes on puts its mark.
 use Prim.Native.Nat.{_≤_}
-use mathlib.Core.Path.{sym, ap, _∙_}
+use mathlib.Core.Path.{sym, _∙_}
 use native.Mathlib.Omega.{arith}
+use borrow.Author.Tests.{not-false}
 use lib.ListN.{length, getD}
-use lib.Bits.{bitOr}
-use Rattle.flow.specs.declared.Move.{Move}
-use Rattle.flow.specs.Masks.{nextOf, jumpOf, toOf}
 use Rattle.flow.proofs.Codes.{goes-on}
-use Rattle.walk.specs.Marks.{backIn, left}
-use Rattle.walk.proofs.Laws.{visit-law, visit-plain, put-less}
+use Rattle.walk.specs.Marks.{left}
+use Rattle.walk.proofs.Laws.{visit-plain, put-less}
 use borrow.Author.Needs.{needs}
 use Rattle.walk.proofs.visit.Statement.{statement}
 use Rattle.walk.proofs.visit.Tie as tie
@@ -19,96 +17,37 @@ mul-word c = search needs
 shared-slice-read-word : tie.Need-shared-slice-read-word
 shared-slice-read-word c = search needs
 
-add-next : tie.Need-add-next
-add-next c = search needs
-
 goes-on-requires : tie.Need-goes-on-requires
 goes-on-requires c κs = search needs
 
-put-requires : tie.Need-put-requires
-put-requires c κs = search needs
+branch-requires : tie.Need-branch-requires
+branch-requires c κs = search needs
 
 same-length : tie.Need-same-length
 same-length c = search needs
 
 returns : tie.Need-returns
-returns c =
-    let s = c .before .before .before .before .before .before .before .before .before .args in
-    let pre = c .before .before .before .before .before .before .before .before .before .pre in
-    let h = s .s in
-    let p = c .before .before .put .ensures in
-    let less : left (c .before .before .put .last .1 .0) ≤ left (s .marks .now) = put-less (length (s .words .now)) (s .marks .now) _ _ p in
-    let w = visit-plain (s .limit) (s .words .now) (h .back) (s .marks .now) (h .at) (h .mark) (pre .marks) (pre .hand .below) (pre .hand .part) (goes-on (getD (s .words .now) (h .at) 0) (sym (c .before .before .before .before .before .goes-on .ensures) ∙ c .before .before .before .before .if1 .taken)) p in
-    record { room = record { hints = pre .room .hints; calls = pre .room .calls }; grew = w .grew; turned = w .turned; ahead = w .next; fell = omega (arith, less) }
+returns c = search needs
 
-at-requires : tie.Need-at-requires
-at-requires c κs = search needs
+add-next : tie.Need-add-next
+add-next c = search needs
 
-note-requires : tie.Need-note-requires
-note-requires c κs = search needs
-
-of-requires : tie.Need-of-requires
-of-requires c κs = search needs
-
-put-requires-2 : tie.Need-put-requires-2
-put-requires-2 c κs = search needs
-
-put-requires-3 : tie.Need-put-requires-3
-put-requires-3 c κs = search needs
+put-requires : tie.Need-put-requires
+put-requires c κs = search needs
 
 same-length-2 : tie.Need-same-length-2
 same-length-2 c = search needs
 
 returns-2 : tie.Need-returns-2
 returns-2 c =
-    let t = c .before .before .before .before .before .before .before .before .before .before .note in
-    let f = c .before .before .before .before .before .before .before .before .before .of in
-    let o = c .before .before .before .before .before .before .before .before .before .before .before .before .before .before .before .at .ensures in
-    let s = c .before .before .before .before .before .before .before .before .before .before .before .before .before .before .before .before .before .before .before .before .before .args in
-    let pre = c .before .before .before .before .before .before .before .before .before .before .before .before .before .before .before .before .before .before .before .before .before .pre in
-    let ms = s .marks .now in
+    let s = c .before .before .before .before .before .before .before .before .before .args in
+    let pre = c .before .before .before .before .before .before .before .before .before .pre in
     let h = s .s in
-    let p = c .before .before .before .before .before .before .before .put2 .ensures in
-    let less : left (c .before .before .before .before .before .before .before .put2 .last .1 .0) ≤ left ms = put-less (length (s .words .now)) ms _ _ p in
-    let j = c .before .before .put3 .ensures in
-    let less′ : left (c .before .before .put3 .last .1 .0) ≤ left (c .before .before .before .before .before .before .before .put2 .last .1 .0) = put-less (length (s .words .now)) _ _ _ j in
-    let w =
-    visit-law (s .limit) (s .words .now) (h .back) ms (h .at) (h .mark) (t .result .back) (f .result .next) (f .result .jump) (f .result .to) (pre .marks) (pre .hand .below) (pre .hand .part) (t .ensures .rose)
-    (t .ensures .back ∙ ap (λ (z : Move). bitOr (h .back) (backIn z (h .mark))) o)
-    (f .ensures .next ∙ ap (λ (z : Move). nextOf z (h .mark) (t .result .back)) o)
-    (f .ensures .jump ∙ ap (λ (z : Move). jumpOf (s .limit) z (h .mark)) o)
-    (f .ensures .to ∙ ap toOf o)
-    p
-    j
-    in record { room = record { hints = t .ensures .room .hints; calls = t .ensures .room .calls }; grew = w .grew; turned = w .turned; ahead = w .jump; fell = omega (arith, less′, less, t .ensures .fell) }
-
-leap-requires : tie.Need-leap-requires
-leap-requires c κs = search needs
-
-same-length-3 : tie.Need-same-length-3
-same-length-3 c = search needs
-
-returns-3 : tie.Need-returns-3
-returns-3 c =
-    let t = c .before .before .before .before .before .before .before .before .before .before .before .before .note in
-    let f = c .before .before .before .before .before .before .before .before .before .before .before .of in
-    let o = c .before .before .before .before .before .before .before .before .before .before .before .before .before .before .before .before .before .at .ensures in
-    let s = c .before .before .before .before .before .before .before .before .before .before .before .before .before .before .before .before .before .before .before .before .before .before .before .args in
-    let pre = c .before .before .before .before .before .before .before .before .before .before .before .before .before .before .before .before .before .before .before .before .before .before .before .pre in
-    let ms = s .marks .now in
-    let h = s .s in
-    let p = c .before .before .before .before .before .before .before .before .before .put2 .ensures in
-    let less : left (c .before .before .before .before .before .before .before .before .before .put2 .last .1 .0) ≤ left ms = put-less (length (s .words .now)) ms _ _ p in
-    let j = c .before .before .leap .ensures in
-    let w =
-    visit-law (s .limit) (s .words .now) (h .back) ms (h .at) (h .mark) (t .result .back) (f .result .next) (f .result .jump) (f .result .to) (pre .marks) (pre .hand .below) (pre .hand .part) (t .ensures .rose)
-    (t .ensures .back ∙ ap (λ (z : Move). bitOr (h .back) (backIn z (h .mark))) o)
-    (f .ensures .next ∙ ap (λ (z : Move). nextOf z (h .mark) (t .result .back)) o)
-    (f .ensures .jump ∙ ap (λ (z : Move). jumpOf (s .limit) z (h .mark)) o)
-    (f .ensures .to ∙ ap toOf o)
-    p
-    (j .put .1)
-    in record { room = record { hints = j .room; calls = t .ensures .room .calls }; grew = w .grew; turned = w .turned; ahead = w .next; fell = omega (arith, j .fell, less, t .ensures .fell) }
+    let p = c .before .before .put .ensures in
+    let g = c .before .before .before .before .before .goes-on in
+    let less : left (c .before .before .put .last .1 .0) ≤ left (s .marks .now) = put-less (length (s .words .now)) (s .marks .now) _ _ p in
+    let w = visit-plain (s .limit) (s .words .now) (h .back) (s .marks .now) (h .at) (h .mark) (pre .marks) (pre .hand .below) (pre .hand .part) (goes-on (getD (s .words .now) (h .at) 0) (sym (g .ensures) ∙ not-false (g .result) (c .before .before .before .before .if1 .left))) p in
+    record { room = record { hints = pre .room .hints; calls = pre .room .calls }; grew = w .grew; turned = w .turned; ahead = w .next; fell = omega (arith, less) }
 
 pub visit-spec : {M : Type 1} → statement M
 visit-spec =
@@ -116,18 +55,11 @@ visit-spec =
     (tie.spec
     mul-word
     shared-slice-read-word
-    add-next
     goes-on-requires
-    put-requires
+    branch-requires
     same-length
     returns
-    at-requires
-    note-requires
-    of-requires
-    put-requires-2
-    put-requires-3
+    add-next
+    put-requires
     same-length-2
-    returns-2
-    leap-requires
-    same-length-3
-    returns-3)
+    returns-2)
