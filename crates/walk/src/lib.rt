@@ -4,7 +4,7 @@ ghost use mathlib.Core.Path.{_≡_};
 ghost use Prim.Native.Nat.{_≤_, _<_};
 ghost use lib.ListN.{length};
 ghost use Rattle.sequence.specs.Bounds.{wordLimit};
-ghost use Rattle.walk.specs.Marks.{backIn, Returns, Cleared, Fits, Room, NoteDone, Put, LeapDone, CanVisit, VisitDone, TurnIs, FollowDone, Tells, HoldsAt, ClosedAt, OpenIs, CanSettle, Marked};
+ghost use Rattle.walk.specs.Marks.{backIn, Cleared, Fits, Room, NoteDone, Put, LeapDone, CanVisit, VisitDone, TurnIs, FollowDone, Tells, HoldsAt, ClosedAt, OpenIs, CanSettle, Marked};
 use flow::Mark;
 use flow::Move;
 use flow::Moves;
@@ -430,20 +430,6 @@ pub fn back_of(o: Move, m: u64) -> u64
         Move::Leave => Mark::bare(m),
         Move::Loop(_) => 0,
     }
-}
-
-// The depths at which a RETURN is marked, at bit 2d.
-pub fn returned(words: &[u64], marks: &[u64]) -> u64
-    requires { ⌜ length (now words) ≤ length (now marks) ⌝ }
-    ensures { λ r. ⌜ Returns (now (words .entry)) (now (marks .entry)) (length (now (words .entry))) r ⌝ }
-{
-    let mut r: u64 = 0;
-    let mut a: usize = 0;
-    while a < words.len() {
-        r = r | back_of(Move::at(words[a]), marks[a]);
-        a += 1;
-    }
-    r
 }
 
 // From marks that are sound and hold the start to the least set.
