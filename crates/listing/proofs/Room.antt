@@ -233,10 +233,10 @@ rest-short w = by (ℕ-discrete w noopWord) (ℕ-discrete (formIn w) 0)
     by (no p) (yes z) = told (reads w p z) (spelled-short w)
     by (no p) (no z) = told (refuses w p z) (omega (arith, decimal-short 1 (formIn w) (form-small w), length-append (decimal (formIn w)) (restText [])))
 
-pub line-short : (a w : ℕ) → a < 10000 → length (lineText (number a) (entriesIn (readingOf w))) ≤ lineSize
-line-short a w l = omega (arith, length-append (decimal a) (restText (entriesIn (readingOf w))), decimal-short 3 a l, rest-short w)
+pub line-short : (a w : ℕ) → a < 10 ^ 20 → length (lineText (number a) (entriesIn (readingOf w))) ≤ lineSize
+line-short a w l = omega (arith, length-append (decimal a) (restText (entriesIn (readingOf w))), decimal-short 19 a l, rest-short w)
 
-pub lines-short : (bytes : List ℕ) (a n : ℕ) → a + n ≤ 10000 → length (textOf (linesFrom bytes a n)) ≤ n * lineSize
+pub lines-short : (bytes : List ℕ) (a n : ℕ) → a + n ≤ 10 ^ 20 → length (textOf (linesFrom bytes a n)) ≤ n * lineSize
 lines-short bytes a zero l = omega arith
 lines-short bytes a (suc n) l =
     omega (

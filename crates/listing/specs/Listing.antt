@@ -99,7 +99,7 @@ linesOf bytes =
 unfoldable pub listingOf : List ℕ → List ℕ
 listingOf bytes = textOf (linesOf bytes)
 
--- what `list` answers, and what it leaves in the buffer: the listing where it fits, and else what was there
+-- what `list` and `line` answer, and what they leave in the buffer: the text where it fits, and else what was there
 pub record Listed (text before after : List ℕ) (r : ℕ) : Type 0 where
   pub size : r ≡ length text
   pub out : after ≡ pick (leb (length text) (length before)) (text ++ drop (length text) before) before
@@ -124,7 +124,7 @@ HeardSame =
 
 -- no line is longer
 abbrev pub lineSize : ℕ
-lineSize = 72
+lineSize = 84
 
 -- the longest listing: the header and a line for each word
 abbrev pub pageSize : ℕ

@@ -34,7 +34,7 @@ impl Listing {
     pub const HEARD: usize = Listing::WORD_BYTES * (Listing::WORDS + 2);
 
     // No line is longer.
-    pub const LINE: usize = 72;
+    pub const LINE: usize = 84;
 
     // Room for the longest listing: the header, and a line for each word.
     pub const PAGE: usize = Listing::LINE * (Listing::WORDS + 1);
@@ -321,6 +321,19 @@ pub fn list(bytes: &[u8], out: &mut [u8]) -> usize
 {
     let mut page = [0u8; Listing::PAGE];
     let n = lay_out(bytes, &mut page);
+    if out.len() < n {
+        return n;
+    }
+    hand_over(&page, n, out);
+    n
+}
+
+// The line of one word at an address, and its length; it is written where it fits.
+pub fn line(address: u64, word: u64, out: &mut [u8]) -> usize
+    ensures { λ r. ⌜ Listed (lineText (number address) (entriesIn (readingOf word))) (now (out .entry)) (now (out .exit)) r ⌝ }
+{
+    let mut page = [0u8; Listing::LINE];
+    let n = put_line(&mut page, 0, address, word);
     if out.len() < n {
         return n;
     }
