@@ -45,6 +45,10 @@ pub fn list(words: &[u64]) {
 
 // Where it is, and the listing's line of the word there.
 fn say_place(words: &[u64], place: usize) {
+    if words.len() == 0 {
+        say(b"\n");
+        return;
+    }
     say(b" at word ");
     say_number(place as u64);
     if place < words.len() {
@@ -52,12 +56,7 @@ fn say_place(words: &[u64], place: usize) {
         say_word(place as u64, words[place]);
         return;
     }
-    say(b", past the last");
-    if words.len() == 0 {
-        say(b"\n");
-        return;
-    }
-    say(b", which is\n");
+    say(b", past the last, which is\n");
     let last = words.len() - 1;
     say_word(last as u64, words[last]);
 }

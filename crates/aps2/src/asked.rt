@@ -196,7 +196,7 @@ impl Asked {
         match number(text, most) {
             Amount::Is(n) => self.with_number(option, n),
             Amount::NoNumber => {
-                complain_of_value(option, text, b" is no number: decimal digits are\n");
+                complain_of_value(option, text, b" is no number; write it in decimal digits\n");
                 self.bad()
             }
             Amount::TooLarge => {
