@@ -1,6 +1,6 @@
 -- Words as they come in, byte by byte: as hexadecimal text, or raw, eight bytes each, most significant first.
 -- Text: words of sixteen digits, parted by white space; # to the end of a line is a comment.
-use Prim.Native.Nat.{ℕ, _+_, _*_, _-_, _/_, _%_, _^_, _≤_, _<_}
+use Prim.Native.Nat.{ℕ, zero, suc, _+_, _*_, _-_, _/_, _%_, _^_, _≤_, _<_}
 use mathlib.Core.Path.{_≡_}
 use mathlib.Core.Bool.{Bool, false, not, _&&_, _||_}
 use mathlib.Core.List.{List, [], _∷_, _++_}
@@ -160,3 +160,31 @@ byteAt w k = w / 2 ^ (8 * k) % 256
 -- most significant first
 abbrev pub rawBytes : ℕ → List ℕ
 rawBytes w = byteAt w 7 ∷ byteAt w 6 ∷ byteAt w 5 ∷ byteAt w 4 ∷ byteAt w 3 ∷ byteAt w 2 ∷ byteAt w 1 ∷ byteAt w 0 ∷ []
+
+-- ---- words as text
+
+-- a digit, in lower case
+abbrev pub hexLetter : ℕ → ℕ
+hexLetter d = pick (ltb d 10) (48 + d) (87 + d)
+
+-- the last digits of a word, most significant first
+abbrev pub lastDigits : ℕ → ℕ → List ℕ
+lastDigits zero w = []
+lastDigits (suc k) w = hexLetter (w / 16 ^ k % 16) ∷ lastDigits k w
+
+-- a word to a line
+abbrev pub hexText : List ℕ → List ℕ
+hexText [] = []
+hexText (w ∷ ws) = lastDigits wordDigits w ++ (lineFeed ∷ hexText ws)
+
+abbrev pub AreWords : List ℕ → Type 0
+AreWords [] = Unit {0}
+AreWords (w ∷ ws) = (w < 2 ^ 64) × AreWords ws
+
+-- words that are written as text read back as they were
+pub record ReadBack (room : ℕ) (ws text : List ℕ) : Type 0 where
+  pub words : wordsOf Hex room start text ≡ ws
+  pub well : troubleOf Hex (takenOf Hex room start text) ≡ 0
+
+abbrev pub HexReadsBack : Type 0
+HexReadsBack = (room : ℕ) (ws : List ℕ) → AreWords ws → length ws ≤ room → ReadBack room ws (hexText ws)
