@@ -23,8 +23,8 @@ use Rattle.buffer.proofs.Laws.{put-none}
 use Rattle.dispatch.proofs.Counts.{picks, counted-more}
 use Rattle.instruction.specs.Form.{numbered}
 use Rattle.machine.specs.State.{Fixed, Did, stateOf, withMessage, withCore, refusedBy, stop, moves, stopped, Done, Traced}
-use Rattle.machine.specs.Step.{nexts, acts, cleared, pushed, callOf, popped, returnOf, messageOf, holdOf, groupOf, sent, sendOf, engineOf, anyAbove, syncOf, goesOut, actOf, breaksGroup, executeOf, withReading, stepOf}
-use Rattle.machine.specs.Kept.{At, Sends}
+use Rattle.machine.specs.Step.{nexts, acts, cleared, pushed, callOf, popped, returnOf, messageOf, holdOf, groupOf, sent, sendOf, engineOf, anyAbove, syncOf, actOf, breaksGroup, executeOf, withReading, stepOf}
+use Rattle.machine.specs.Kept.{At, Sends, goesOut}
 use Rattle.machine.specs.declared.Core.{Core}
 use Rattle.machine.specs.declared.State.{State}
 use Rattle.machine.specs.declared.Stepped.{Stepped}

@@ -1,8 +1,11 @@
 -- What every state of a run keeps, so that no sum overflows and no index is out of range: what the step asks of its state.
--- It holds of the fresh state and is kept by every step (proofs/Kept.antt).
+-- It holds of the fresh state and is kept by every step (proofs/Kept.antt). Last, what only the code asks of a word.
 use Prim.Native.Nat.{ℕ, _-_, _^_, _≤_, _<_}
+use mathlib.Core.Bool.{Bool, true, false}
 use mathlib.Core.List.{List}
 use lib.ListN.{length}
+use Rattle.instruction.specs.declared.Body.{Body}
+use Rattle.instruction.specs.declared.Body.the-variants.{Waveform, Marker, Wait, LoadRepeat, Repeat, Cmp, Goto, Call, Return, Sync, Modulator, LoadCmp, Prefetch, Noop}
 use Rattle.sequence.specs.Bounds.{stackDepth, budgetLimit, groupSize}
 use Rattle.dispatch.specs.Engines.{AllLe, Counted}
 use Rattle.machine.specs.State.{Fixed}
@@ -49,3 +52,20 @@ pub record Sends (words : List ℕ) (room : ℕ) (c : Core) (ws ts : List ℕ) :
   pub behind : c .held ≤ c .address .0
   pub sent : c .sent ≤ room
   pub engines : Counted (2 ^ 30) ws ts
+
+-- the words that go out, at once or later: engine words, WAIT and SYNC
+abbrev pub goesOut : Body → Bool
+goesOut (Waveform f) = true
+goesOut (Marker f) = true
+goesOut Wait = true
+goesOut (LoadRepeat n) = false
+goesOut (Repeat a) = false
+goesOut (Cmp x) = false
+goesOut (Goto a) = false
+goesOut (Call a) = false
+goesOut (Return p) = false
+goesOut Sync = true
+goesOut (Modulator f) = true
+goesOut (LoadCmp p) = false
+goesOut (Prefetch a) = false
+goesOut Noop = false

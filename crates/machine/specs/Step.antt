@@ -127,23 +127,6 @@ anyAbove triggers (x ∷ waits) = ltb triggers x || anyAbove triggers waits
 unfoldable pub syncOf : Fixed → State → Did
 syncOf e s = pick (anyAbove (e .setting .triggers) (s .waits)) (stop 41 s) (sendOf e s)
 
--- what goes out, at once or later: engine words, WAIT and SYNC
-abbrev pub goesOut : Body → Bool
-goesOut (Waveform f) = true
-goesOut (Marker f) = true
-goesOut Wait = true
-goesOut (LoadRepeat n) = false
-goesOut (Repeat a) = false
-goesOut (Cmp x) = false
-goesOut (Goto a) = false
-goesOut (Call a) = false
-goesOut (Return p) = false
-goesOut Sync = true
-goesOut (Modulator f) = true
-goesOut (LoadCmp p) = false
-goesOut (Prefetch a) = false
-goesOut Noop = false
-
 -- ---- the step
 
 -- what an instruction does that form, 20, 21 and 22 let through; "PREFETCH, NOOP and sync waits change nothing else."

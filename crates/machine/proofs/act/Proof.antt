@@ -4,7 +4,8 @@ use mathlib.Core.Bool.{true≢false}
 use denote.Ref.{now}
 use native.Mathlib.Omega.{arith}
 use Rattle.machine.specs.State.{stopped}
-use Rattle.machine.specs.Step.{goesOut, actOf}
+use Rattle.machine.specs.Step.{actOf}
+use Rattle.machine.specs.Kept.{goesOut}
 use Rattle.machine.proofs.Laws.{quiet, moved-done, call-quiet, return-quiet, message-quiet, sends-of}
 use borrow.Author.Needs.{needs}
 use Rattle.machine.proofs.act.Statement.{statement}
