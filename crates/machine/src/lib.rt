@@ -22,8 +22,8 @@ use instruction::Instruction;
 use instruction::QuadSamples;
 use instruction::Refusal;
 use instruction::WordAddress;
-use reader::Reading;
-use reader::read;
+use reader::instruction_in;
+use reader::refusal_of;
 use sequence::Sequence;
 
 pub enum Condition {
@@ -523,11 +523,11 @@ pub fn step(
     if words.len() <= at {
         return Stepped::stop(Sequence::PAST_THE_END, s);
     }
-    let reading = read(words[at]);
-    let Reading::Accepted(i) = reading else {
-        let end = reading.refusal();
+    let word = words[at];
+    let end = refusal_of(word);
+    if end.number != 0 {
         return Stepped { end, core: s };
-    };
+    }
     execute(
         words,
         messages,
@@ -537,7 +537,7 @@ pub fn step(
         waits,
         totals,
         s,
-        i,
+        instruction_in(word),
         setting,
     )
 }

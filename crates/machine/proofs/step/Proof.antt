@@ -1,9 +1,13 @@
--- By the address, and by what the word reads as.
-use mathlib.Core.Path.{refl, sym, ap, _∙_}
+-- By the address, and by the word's refusal.
+use mathlib.Core.Path.{_≡_, refl, sym, ap, _∙_}
+use Prim.Native.Nat.{ℕ}
 use denote.Ref.{now}
-use lib.ListN.{length}
+use lib.ListN.{length, getD}
+use Rattle.instruction.specs.declared.Refusal.{Refusal}
+use Rattle.reader.specs.Reading.{readingOf, refusalOf, numberOf}
+use Rattle.reader.specs.declared.Reading.the-variants.{Accepted}
+use Rattle.reader.proofs.Laws.{reads-instruction, refuses-whole}
 use Rattle.machine.specs.State.{fixedBy, stateOf}
-use Rattle.reader.specs.Reading.{refusalOf}
 use Rattle.machine.proofs.Laws.{quiet, stopped-done, refused-done, step-past, step-refused, step-accepted}
 use borrow.Author.Needs.{needs}
 use Rattle.machine.proofs.step.Statement.{statement}
@@ -17,29 +21,25 @@ returns c =
     let a = c .before .before .before .before .before .args in
     rw (step-past (fixedBy (now (a .words)) (now (a .messages)) (length (now (a .trace))) (a .setting)) (stateOf (a .s) (now (a .returns)) (now (a .counters)) (now (a .waits)) (now (a .totals))) (c .before .if1 .taken)) (quiet (a .s .sent) (now (a .trace)) refl (stopped-done (c .stop .ensures)))
 
-mul-read : tie.Need-mul-read
-mul-read c = search needs
+mul-word : tie.Need-mul-word
+mul-word c = search needs
 
-shared-slice-read-read : tie.Need-shared-slice-read-read
-shared-slice-read-read c = search needs
+shared-slice-read-word : tie.Need-shared-slice-read-word
+shared-slice-read-word c = search needs
 
-read-requires : tie.Need-read-requires
-read-requires c κs = search needs
-
-enum-known-reading : tie.Need-enum-known-reading
-enum-known-reading c = search needs
-
-enum-told : tie.Need-enum-told
-enum-told c = search needs
-
-refusal-requires : tie.Need-refusal-requires
-refusal-requires c κs = search needs
+refusal-of-requires : tie.Need-refusal-of-requires
+refusal-of-requires c κs = search needs
 
 returns-2 : tie.Need-returns-2
 returns-2 c =
-    let a = c .before .before .before .before .before .before .before .before .before .args in
-    rw (step-refused (fixedBy (now (a .words)) (now (a .messages)) (length (now (a .trace))) (a .setting)) (stateOf (a .s) (now (a .returns)) (now (a .counters)) (now (a .waits)) (now (a .totals))) _ (c .before .before .before .before .before .if1 .left) (sym (c .before .before .before .read .ensures) ∙ c .before .enum-told .given .1))
-    (quiet (a .s .sent) (now (a .trace)) refl (refused-done (c .refusal .ensures ∙ ap refusalOf (c .before .enum-told .given .1))))
+    let a = c .before .before .before .before .before .before .before .before .args in
+    let word : ℕ = getD (now (a .words)) (a .s .address .0) 0 in
+    let refused : numberOf (readingOf word) ≡ 0 → ⊥ = (λ z. c .if2 .taken (ap (λ (r : Refusal). r .number) (c .before .before .refusal-of .ensures) ∙ z)) in
+    rw (step-refused (fixedBy (now (a .words)) (now (a .messages)) (length (now (a .trace))) (a .setting)) (stateOf (a .s) (now (a .returns)) (now (a .counters)) (now (a .waits)) (now (a .totals))) (refusalOf (readingOf word)) (c .before .before .before .before .if1 .left) (sym (refuses-whole word refused)))
+    (quiet (a .s .sent) (now (a .trace)) refl (refused-done (c .before .before .refusal-of .ensures)))
+
+instruction-in-requires : tie.Need-instruction-in-requires
+instruction-in-requires c κs = search needs
 
 execute-requires : tie.Need-execute-requires
 execute-requires c κs = record { ready = c .before .before .before .before .before .before .before .before .before .before .before .before .before .before .pre; inside = c .before .before .before .before .before .before .before .before .before .before .if1 .left }
@@ -50,7 +50,9 @@ same-length c = search needs
 returns-3 : tie.Need-returns-3
 returns-3 c =
     let a = c .before .before .before .before .before .before .before .before .before .before .before .before .before .before .before .before .before .args in
-    rw (step-accepted (fixedBy (now (a .words)) (now (a .messages)) (length (now (a .trace))) (a .setting)) (stateOf (a .s) (now (a .returns)) (now (a .counters)) (now (a .waits)) (now (a .totals))) _ (c .before .before .before .before .before .before .before .before .before .before .before .before .before .if1 .left) (sym (c .before .before .before .before .before .before .before .before .before .before .before .read .ensures) ∙ c .before .before .before .before .before .before .before .before .before .reading .given .1)) (c .before .before .execute .ensures)
+    let word : ℕ = getD (now (a .words)) (a .s .address .0) 0 in
+    let accepted : numberOf (readingOf word) ≡ 0 = sym (ap (λ (r : Refusal). r .number) (c .before .before .before .before .before .before .before .before .before .before .before .refusal-of .ensures)) ∙ c .before .before .before .before .before .before .before .before .before .if2 .left in
+    rw (step-accepted (fixedBy (now (a .words)) (now (a .messages)) (length (now (a .trace))) (a .setting)) (stateOf (a .s) (now (a .returns)) (now (a .counters)) (now (a .waits)) (now (a .totals))) _ (c .before .before .before .before .before .before .before .before .before .before .before .before .before .if1 .left) (sym (reads-instruction word accepted) ∙ ap Accepted (sym (c .before .before .before .instruction-in .ensures)))) (c .before .before .execute .ensures)
 
 pub step-spec : {M : Type 1} → statement M
 step-spec =
@@ -58,13 +60,11 @@ step-spec =
     (tie.spec
     stop-requires
     returns
-    mul-read
-    shared-slice-read-read
-    read-requires
-    enum-known-reading
-    enum-told
-    refusal-requires
+    mul-word
+    shared-slice-read-word
+    refusal-of-requires
     returns-2
+    instruction-in-requires
     execute-requires
     same-length
     returns-3)
