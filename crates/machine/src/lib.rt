@@ -371,28 +371,6 @@ fn awaits_trigger(body: Body, triggers: u64, waits: &[u64; Engines::COUNT]) -> b
     any_above(triggers, waits)
 }
 
-// Engine words, WAIT and SYNC: the words that the trace can hold.
-fn goes_out(body: Body) -> bool
-    ensures { λ r. ⌜ r ≡ goesOut body ⌝ }
-{
-    match body {
-        Body::Waveform(_) => true,
-        Body::Marker(_) => true,
-        Body::Wait => true,
-        Body::LoadRepeat(_) => false,
-        Body::Repeat(_) => false,
-        Body::Cmp(_) => false,
-        Body::Goto(_) => false,
-        Body::Call(_) => false,
-        Body::Return(_) => false,
-        Body::Sync => true,
-        Body::Modulator(_) => true,
-        Body::LoadCmp(_) => false,
-        Body::Prefetch(_) => false,
-        Body::Noop => false,
-    }
-}
-
 // A word that goes out: 41, or held where it is an engine word and its write flag is low, or sent.
 fn outward(
     words: &[u64],
@@ -433,26 +411,24 @@ fn act(
     requires { ⌜ At (fixedBy (now words) (now messages) (length (now trace)) setting) (stateOf s (now returns) (now counters) (now waits) (now totals)) ⌝ }
     ensures { λ r. ⌜ Traced (actOf (fixedBy (now (words .entry)) (now (messages .entry)) (length (now (trace .entry))) setting) (stateOf s (now (returns .entry)) (now (counters .entry)) (now (waits .entry)) (now (totals .entry))) write body) (s .sent) (now (trace .entry)) (now (trace .exit)) r (now (returns .exit)) (now (counters .exit)) (now (waits .exit)) (now (totals .exit)) ⌝ }
 {
-    if goes_out(body) {
-        return outward(words, trace, waits, totals, s, write, body, setting);
-    }
-    // The arms of what goes out are never taken.
     match body {
-        Body::Waveform(_) => Stepped::moves(s.nexts()),
-        Body::Marker(_) => Stepped::moves(s.nexts()),
-        Body::Wait => Stepped::moves(s.nexts()),
-        Body::LoadRepeat(n) => Stepped::moves(s.loads(n.0)),
-        Body::Repeat(a) => Stepped::moves(s.repeat(a)),
-        Body::Cmp(x) => Stepped::moves(s.compare(x)),
-        Body::Goto(a) => Stepped::moves(s.goto(a)),
-        Body::Call(a) => call(returns, counters, s, a),
-        Body::Return(_) => ret(returns, counters, s),
-        Body::Sync => Stepped::moves(s.nexts()),
-        Body::Modulator(_) => Stepped::moves(s.nexts()),
-        Body::LoadCmp(_) => message(messages, s),
-        Body::Prefetch(_) => Stepped::moves(s.nexts()),
-        Body::Noop => Stepped::moves(s.nexts()),
+        Body::LoadRepeat(n) => return Stepped::moves(s.loads(n.0)),
+        Body::Repeat(a) => return Stepped::moves(s.repeat(a)),
+        Body::Cmp(x) => return Stepped::moves(s.compare(x)),
+        Body::Goto(a) => return Stepped::moves(s.goto(a)),
+        Body::Call(a) => return call(returns, counters, s, a),
+        Body::Return(_) => return ret(returns, counters, s),
+        Body::LoadCmp(_) => return message(messages, s),
+        Body::Prefetch(_) => return Stepped::moves(s.nexts()),
+        Body::Noop => return Stepped::moves(s.nexts()),
+        // What goes out.
+        Body::Waveform(_) => {}
+        Body::Marker(_) => {}
+        Body::Wait => {}
+        Body::Sync => {}
+        Body::Modulator(_) => {}
     }
+    outward(words, trace, waits, totals, s, write, body, setting)
 }
 
 fn breaks_group(held: u64, write: u64, body: Body) -> bool
