@@ -6,7 +6,7 @@ use mathlib.Core.List.{List, [], _∷_}
 use Prim.Native.Nat.{ℕ, zero, suc, _+_, _-_, _^_, _≤_, _<_}
 use native.Mathlib.Decide.{ℕ-discrete}
 use native.Mathlib.Omega.{arith}
-use borrow.Author.Tests.{lt-ltb, le-ltb, le-leb, lt-leb, ne-eqb, eqb-true, eqb-false}
+use borrow.Author.Tests.{lt-ltb, le-ltb, le-leb, lt-leb, eq-eqb, ne-eqb, eqb-true, eqb-false}
 use lib.Dec.{ltb, eqb}
 use lib.ListN.{length, getD}
 use Rattle.instruction.specs.Bits.{pick}
@@ -24,7 +24,7 @@ use Rattle.dispatch.proofs.Counts.{picks, counted-more}
 use Rattle.instruction.specs.Form.{numbered}
 use Rattle.machine.specs.State.{Fixed, Did, stateOf, withMessage, withCore, refusedBy, stop, moves, stopped, Done, Traced}
 use Rattle.machine.specs.Step.{nexts, acts, cleared, pushed, callOf, popped, returnOf, messageOf, holdOf, groupOf, sent, sendOf, engineOf, anyAbove, syncOf, actOf, breaksGroup, executeOf, withReading, stepOf}
-use Rattle.machine.specs.Kept.{At, Sends, goesOut}
+use Rattle.machine.specs.Kept.{At, Sends, goesOut, groupRefused}
 use Rattle.machine.specs.declared.Core.{Core}
 use Rattle.machine.specs.declared.State.{State}
 use Rattle.machine.specs.declared.Stepped.{Stepped}
@@ -231,6 +231,58 @@ pub execute-acts : (e : Fixed) (s : State) (i : Instruction) → placingOf (e .s
     → breaksGroup (s .core .held) (i .write) (i .body) ≡ false → executeOf e s i ≡ actOf e s (i .write) (i .body)
 unfolding executeOf
 execute-acts e s i p b = rw (p, b)
+
+-- ---- a word that comes while a group is held
+
+module _ (held : ℕ) (i : Instruction) (n wave : ℕ) where
+  pub refused-none : held ≡ 0 → 0 ≡ groupRefused held i n wave
+  refused-none z = rw (eq-eqb held 0 z)
+
+  pub refused-placed : (p : ℕ) → (held ≡ 0 → ⊥) → p ≡ placingOf wave n (i .body) → (p ≡ 0 → ⊥) → p ≡ groupRefused held i n wave
+  refused-placed p h e z = rw (ne-eqb held 0 h, ← e, ne-eqb p 0 z)
+
+  pub refused-broken : (held ≡ 0 → ⊥) → placingOf wave n (i .body) ≡ 0 → breaksGroup held (i .write) (i .body) ≡ true → 22 ≡ groupRefused held i n wave
+  refused-broken h e b = rw (ne-eqb held 0 h, e, b)
+
+  pub refused-whole : (held ≡ 0 → ⊥) → placingOf wave n (i .body) ≡ 0 → breaksGroup held (i .write) (i .body) ≡ false → 0 ≡ groupRefused held i n wave
+  refused-whole h e b = rw (ne-eqb held 0 h, e, b)
+
+none-breaks : (w : ℕ) (b : Body) → breaksGroup 0 w b ≡ false
+none-breaks w b = picks (λ (t : Bool). t ≡ false) (isEngine b) (λ _. refl) (λ _. refl)
+
+module _ (e : Fixed) (s : State) (i : Instruction) where
+  abbrev placing : ℕ
+  placing = placingOf (e .setting .wave .0) (length (e .words)) (i .body)
+
+  abbrev broken : Bool
+  broken = breaksGroup (s .core .held) (i .write) (i .body)
+
+  whole : (p : ℕ) (t b : Bool) → eqb p 0 ≡ t → pick t (pick b 22 0) p ≡ 0 → b ≡ false
+  whole p true true q z = absurd (omega (arith, z))
+  whole p true false q z = refl
+  whole p false b q z = absurd (eqb-false p 0 q z)
+
+  -- none is given: the group is whole
+  pub group-whole : groupRefused (s .core .held) i (length (e .words)) (e .setting .wave .0) ≡ 0 → broken ≡ false
+  group-whole = by (eqb (s .core .held) 0) refl
+    where
+      by : (h : Bool) → eqb (s .core .held) 0 ≡ h → pick h 0 (pick (eqb placing 0) (pick broken 22 0) placing) ≡ 0 → broken ≡ false
+      by true q z = rw (eqb-true (s .core .held) 0 q) (none-breaks (i .write) (i .body))
+      by false q z = whole placing (eqb placing 0) broken refl z
+
+  first-of : (n p : ℕ) (t b : Bool) (d : Did) → n ≡ pick t (pick b 22 0) p → (n ≡ 0 → ⊥) → pick t (pick b (stop 22 s) d) (stop p s) ≡ stop n s
+  first-of n p true true d e z = ap (λ (m : ℕ). stop m s) (sym e)
+  first-of n p true false d e z = absurd (z e)
+  first-of n p false b d e z = ap (λ (m : ℕ). stop m s) (sym e)
+
+  -- one is given: the step ends with it
+  pub group-refused : (n : ℕ) → n ≡ groupRefused (s .core .held) i (length (e .words)) (e .setting .wave .0) → (n ≡ 0 → ⊥) → executeOf e s i ≡ stop n s
+  unfolding executeOf
+  group-refused n = by (eqb (s .core .held) 0)
+    where
+      by : (h : Bool) → n ≡ pick h 0 (pick (eqb placing 0) (pick broken 22 0) placing) → (n ≡ 0 → ⊥) → executeOf e s i ≡ stop n s
+      by true q z = absurd (z q)
+      by false q z = first-of n placing (eqb placing 0) broken (actOf e s (i .write) (i .body)) q z
 
 pub step-past : (e : Fixed) (s : State) → length (e .words) ≤ s .core .address .0 → stepOf e s ≡ stop 30 s
 unfolding stepOf

@@ -3,12 +3,17 @@
 use Prim.Native.Nat.{ℕ, _-_, _^_, _≤_, _<_}
 use mathlib.Core.Bool.{Bool, true, false}
 use mathlib.Core.List.{List}
+use lib.Dec.{eqb}
 use lib.ListN.{length}
+use Rattle.instruction.specs.Bits.{pick}
+use Rattle.instruction.specs.declared.Instruction.{Instruction}
 use Rattle.instruction.specs.declared.Body.{Body}
 use Rattle.instruction.specs.declared.Body.the-variants.{Waveform, Marker, Wait, LoadRepeat, Repeat, Cmp, Goto, Call, Return, Sync, Modulator, LoadCmp, Prefetch, Noop}
 use Rattle.sequence.specs.Bounds.{stackDepth, budgetLimit, groupSize}
+use Rattle.sequence.specs.Placing.{placingOf}
 use Rattle.dispatch.specs.Engines.{AllLe, Counted}
 use Rattle.machine.specs.State.{Fixed}
+use Rattle.machine.specs.Step.{breaksGroup}
 use Rattle.machine.specs.declared.Core.{Core}
 use Rattle.machine.specs.declared.State.{State}
 
@@ -69,3 +74,9 @@ goesOut (Modulator f) = true
 goesOut (LoadCmp p) = false
 goesOut (Prefetch a) = false
 goesOut Noop = false
+
+-- 20 and 21, then 22, of an instruction that comes while a group is held; else 0
+abbrev pub groupRefused : ℕ → Instruction → ℕ → ℕ → ℕ
+groupRefused held i n wave =
+    pick (eqb held 0) 0
+    (pick (eqb (placingOf wave n (i .body)) 0) (pick (breaksGroup held (i .write) (i .body)) 22 0) (placingOf wave n (i .body)))

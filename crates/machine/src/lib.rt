@@ -8,12 +8,13 @@ ghost use lib.ListN.{length};
 ghost use lib.Dec.{eqb};
 ghost use Rattle.instruction.specs.Bits.{pick};
 ghost use Rattle.instruction.specs.Table.{codeOf};
+ghost use Rattle.reader.specs.Reading.{instructionIn};
 ghost use Rattle.sequence.specs.Bounds.{budgetLimit};
 ghost use Rattle.dispatch.specs.Engines.{engineCount};
 ghost use Rattle.machine.specs.State.{fixedBy, stateOf, freshCore, withMessage, withSent, withCounter, withCondition, stopped, Done, Traced};
 ghost use Rattle.machine.specs.Step.{goes, nexts, repeatOf, compares, compareOf, acts, gotoOf, callOf, returnOf, messageOf, holdOf, sendOf, anyAbove, actOf, breaksGroup, executeOf, stepOf};
 ghost use Rattle.machine.specs.declared.Setting.{Setting};
-ghost use Rattle.machine.specs.Kept.{Counts, Holds, Returns, Sends, Ready, At, goesOut};
+ghost use Rattle.machine.specs.Kept.{Counts, Holds, Returns, Sends, Ready, At, goesOut, groupRefused};
 use dispatch::Engines;
 use dispatch::dispatch;
 use instruction::Body;
@@ -440,7 +441,26 @@ fn breaks_group(held: u64, write: u64, body: Body) -> bool
     0 < held
 }
 
-// 20 and 21, then 22, then what the instruction does.
+// 20 and 21, then 22, of a word that comes while a group is held; else 0.
+fn group_refused(held: u64, word: u64, n: u64, wave: QuadSamples) -> u64
+    ensures { λ r. ⌜ r ≡ groupRefused held (instructionIn word) n (wave .0) ⌝ }
+{
+    if held == 0 {
+        return 0;
+    }
+    let i = instruction_in(word);
+    let body = i.body;
+    let placing = Sequence::placing(wave.0, n, body);
+    if placing != 0 {
+        return placing;
+    }
+    if breaks_group(held, i.write, body) {
+        return Sequence::BROKEN_GROUP;
+    }
+    0
+}
+
+// 20 and 21, then 22, then what the instruction does. Where no group is held, no word can break it.
 fn execute(
     words: &[u64],
     messages: &[u8],
@@ -450,20 +470,22 @@ fn execute(
     waits: &mut [u64; Engines::COUNT],
     totals: &mut [u64; Engines::COUNT],
     s: Core,
-    i: Instruction,
+    word: u64,
     setting: Setting,
 ) -> Stepped
     requires { ⌜ At (fixedBy (now words) (now messages) (length (now trace)) setting) (stateOf s (now returns) (now counters) (now waits) (now totals)) ⌝ }
-    ensures { λ r. ⌜ Traced (executeOf (fixedBy (now (words .entry)) (now (messages .entry)) (length (now (trace .entry))) setting) (stateOf s (now (returns .entry)) (now (counters .entry)) (now (waits .entry)) (now (totals .entry))) i) (s .sent) (now (trace .entry)) (now (trace .exit)) r (now (returns .exit)) (now (counters .exit)) (now (waits .exit)) (now (totals .exit)) ⌝ }
+    ensures { λ r. ⌜ Traced (executeOf (fixedBy (now (words .entry)) (now (messages .entry)) (length (now (trace .entry))) setting) (stateOf s (now (returns .entry)) (now (counters .entry)) (now (waits .entry)) (now (totals .entry))) (instructionIn word)) (s .sent) (now (trace .entry)) (now (trace .exit)) r (now (returns .exit)) (now (counters .exit)) (now (waits .exit)) (now (totals .exit)) ⌝ }
 {
+    let n = words.len() as u64;
+    let refused = group_refused(s.held, word, n, setting.wave);
+    if refused != 0 {
+        return Stepped::stop(refused, s);
+    }
+    let i = instruction_in(word);
     let body = i.body;
-    let write = i.write;
-    let placing = Sequence::placing(setting.wave.0, words.len() as u64, body);
+    let placing = Sequence::placing(setting.wave.0, n, body);
     if placing != 0 {
         return Stepped::stop(placing, s);
-    }
-    if breaks_group(s.held, write, body) {
-        return Stepped::stop(Sequence::BROKEN_GROUP, s);
     }
     act(
         words,
@@ -474,7 +496,7 @@ fn execute(
         waits,
         totals,
         s,
-        write,
+        i.write,
         body,
         setting,
     )
@@ -513,7 +535,7 @@ pub fn step(
         waits,
         totals,
         s,
-        instruction_in(word),
+        word,
         setting,
     )
 }

@@ -5,7 +5,6 @@ use denote.Ref.{now}
 use lib.ListN.{length, getD}
 use Rattle.instruction.specs.declared.Refusal.{Refusal}
 use Rattle.reader.specs.Reading.{readingOf, refusalOf, numberOf}
-use Rattle.reader.specs.declared.Reading.the-variants.{Accepted}
 use Rattle.reader.proofs.Laws.{reads-instruction, refuses-whole}
 use Rattle.machine.specs.State.{fixedBy, stateOf}
 use Rattle.machine.proofs.Laws.{quiet, stopped-done, refused-done, step-past, step-refused, step-accepted}
@@ -38,21 +37,18 @@ returns-2 c =
     rw (step-refused (fixedBy (now (a .words)) (now (a .messages)) (length (now (a .trace))) (a .setting)) (stateOf (a .s) (now (a .returns)) (now (a .counters)) (now (a .waits)) (now (a .totals))) (refusalOf (readingOf word)) (c .before .before .before .before .if1 .left) (sym (refuses-whole word refused)))
     (quiet (a .s .sent) (now (a .trace)) refl (refused-done (c .before .before .refusal-of .ensures)))
 
-instruction-in-requires : tie.Need-instruction-in-requires
-instruction-in-requires c κs = search needs
-
 execute-requires : tie.Need-execute-requires
-execute-requires c κs = record { ready = c .before .before .before .before .before .before .before .before .before .before .before .before .before .before .pre; inside = c .before .before .before .before .before .before .before .before .before .before .if1 .left }
+execute-requires c κs = record { ready = c .before .before .before .before .before .before .before .before .before .before .before .before .before .pre; inside = c .before .before .before .before .before .before .before .before .before .if1 .left }
 
 same-length : tie.Need-same-length
 same-length c = search needs
 
 returns-3 : tie.Need-returns-3
 returns-3 c =
-    let a = c .before .before .before .before .before .before .before .before .before .before .before .before .before .before .before .before .before .args in
+    let a = c .before .before .before .before .before .before .before .before .before .before .before .before .before .before .before .before .args in
     let word : ℕ = getD (now (a .words)) (a .s .address .0) 0 in
-    let accepted : numberOf (readingOf word) ≡ 0 = sym (ap (λ (r : Refusal). r .number) (c .before .before .before .before .before .before .before .before .before .before .before .refusal-of .ensures)) ∙ c .before .before .before .before .before .before .before .before .before .if2 .left in
-    rw (step-accepted (fixedBy (now (a .words)) (now (a .messages)) (length (now (a .trace))) (a .setting)) (stateOf (a .s) (now (a .returns)) (now (a .counters)) (now (a .waits)) (now (a .totals))) _ (c .before .before .before .before .before .before .before .before .before .before .before .before .before .if1 .left) (sym (reads-instruction word accepted) ∙ ap Accepted (sym (c .before .before .before .instruction-in .ensures)))) (c .before .before .execute .ensures)
+    let accepted : numberOf (readingOf word) ≡ 0 = sym (ap (λ (r : Refusal). r .number) (c .before .before .before .before .before .before .before .before .before .before .refusal-of .ensures)) ∙ c .before .before .before .before .before .before .before .before .if2 .left in
+    rw (step-accepted (fixedBy (now (a .words)) (now (a .messages)) (length (now (a .trace))) (a .setting)) (stateOf (a .s) (now (a .returns)) (now (a .counters)) (now (a .waits)) (now (a .totals))) _ (c .before .before .before .before .before .before .before .before .before .before .before .before .if1 .left) (sym (reads-instruction word accepted))) (c .before .before .execute .ensures)
 
 pub step-spec : {M : Type 1} → statement M
 step-spec =
@@ -64,7 +60,6 @@ step-spec =
     shared-slice-read-word
     refusal-of-requires
     returns-2
-    instruction-in-requires
     execute-requires
     same-length
     returns-3)
