@@ -1,15 +1,14 @@
 -- Laws of what the engines count: a word adds at most one wait and 2^32 quad-samples, to one of six engines.
 -- Assumes nothing.
 use Prim.Native.Nat.{ℕ, zero, suc, _+_, _*_, _^_, _≤_, _<_}
-use mathlib.Core.Path.{_≡_, refl, sym, ap₂, _∙_}
+use mathlib.Core.Path.{_≡_, refl, sym, ap₂, _∙_, subst}
 use mathlib.Core.Bool.{Bool, true, false}
 use mathlib.Core.List.{List, [], _∷_, _++_}
 use native.Mathlib.Numerals.{add-one}
 use native.Mathlib.Omega.{arith}
-use borrow.Author.Tests.{eq-eqb, ne-eqb}
 use lib.Dec.{eqb}
 use lib.ListN.{length, getD, take, drop, length-set, length-map, length-drop}
-use lib.Seq.{take-suc, getD-drop}
+use lib.Seq.{take-suc, drop-cons, getD-drop}
 use Rattle.instruction.specs.Bits.{pick, span}
 use Rattle.instruction.specs.Table.{engineSelect, codeOf, bodyOf}
 use Rattle.instruction.specs.Form.{plays, modulates}
@@ -18,8 +17,10 @@ use Rattle.instruction.specs.declared.Instruction.{Instruction}
 use Rattle.instruction.specs.declared.Body.{Body}
 use Rattle.instruction.specs.declared.Body.the-variants.{Wait}
 use Rattle.sequence.proofs.Laws.{on-engine}
-use Rattle.dispatch.specs.Engines.{engineOf, waitsFor, playsFor, addTo, plusOne, waitsAfter, totalsAfter, waitsOver, totalsOver, Six, Counted, CountedOne}
+use Rattle.dispatch.specs.Engines.{engineOf, waitsFor, playsFor, waitsAfter, totalsAfter, waitsOver, totalsOver, Six, Counted}
+use Rattle.dispatch.specs.Counting.{shareIn, Small, CountedOne}
 use Rattle.dispatch.specs.Trace.{part}
+use Rattle.dispatch.specs.declared.Share.{Share}
 use Rattle.dispatch.proofs.Lists.{all-get, all-set, all-more, all-plus}
 
 -- what holds of both, each under its test, holds of the one that is picked
@@ -66,13 +67,11 @@ pub plays-small : (w : ℕ) → playsFor (spelledBy w .body) ≤ 2 ^ 32
 unfolding spelledBy
 plays-small w = plays-of w (codeIn w)
 
--- WAIT, and every other word
-pub is-wait : (w : ℕ) (ws : List ℕ) → codeOf (spelledBy w .body) ≡ 2 → waitsAfter ws (spelledBy w) ≡ plusOne ws
-is-wait w ws e = rw (eq-eqb _ _ e)
+pub share-small : (w : ℕ) → Small (shareIn (spelledBy w))
+share-small w = record { engine = engine-small (spelledBy w) (spelled-engine w); waits = waits-small (spelledBy w .body); plays = plays-small w }
 
-pub not-wait : (w : ℕ) (ws : List ℕ) → (codeOf (spelledBy w .body) ≡ 2 → ⊥)
-    → waitsAfter ws (spelledBy w) ≡ addTo ws (engineOf (spelledBy w)) (waitsFor (spelledBy w .body))
-not-wait w ws e = rw (ne-eqb _ _ e)
+pub counted-by : {r q : Share} {ws ts ws′ ts′ : List ℕ} → r ≡ q → CountedOne r ws ts ws′ ts′ → CountedOne q ws ts ws′ ts′
+counted-by {ws = ws} {ts = ts} {ws′ = ws′} {ts′ = ts′} e d = subst (λ (x : Share). CountedOne x ws ts ws′ ts′) e d
 
 -- one word more
 pub waits-after : (k w : ℕ) (ws : List ℕ) → Six k ws → Six (k + 1) (waitsAfter ws (spelledBy w))
@@ -141,7 +140,7 @@ pub along-start : (words : List ℕ) (from n : ℕ) (ws ts : List ℕ) → Count
 along-start words from n ws ts c = record { waits = refl; totals = refl; within = omega arith; counts = counted-more (2 ^ 30) (2 ^ 30 + 0) ws ts (omega arith) c }
 
 pub along-next : (words : List ℕ) (from n i : ℕ) (ws ts ws′ ts′ wn tn : List ℕ) → from + n ≤ length words → i < n
-    → Along words from n i ws ts ws′ ts′ → CountedOne (getD words (from + i) 0) ws′ ts′ wn tn
+    → Along words from n i ws ts ws′ ts′ → CountedOne (shareIn (spelledBy (getD words (from + i) 0))) ws′ ts′ wn tn
     → Along words from n (i + 1) ws ts wn tn
 along-next words from n i ws ts ws′ ts′ wn tn h l a d =
     let w : ℕ = getD words (from + i) 0 in
@@ -153,3 +152,8 @@ along-next words from n i ws ts ws′ ts′ wn tn h l a d =
     d .totals ∙ ap₂ (λ (x : List ℕ) (y : ℕ). totalsAfter x (spelledBy y)) (a .totals) e ∙ totals-next ts (drop from words) i m in
     let c : Counted (2 ^ 30 + i + 1) wn tn = rw (d .waits, d .totals) (counted-after (2 ^ 30 + i) w ws′ ts′ (a .counts)) in
     record { waits = p; totals = q; within = omega arith; counts = counted-more (2 ^ 30 + i + 1) (2 ^ 30 + (i + 1)) wn tn (omega arith) c }
+
+-- ---- a word that goes out alone
+
+pub part-one : (words : List ℕ) (from : ℕ) → from < length words → part from 1 words ≡ getD words from 0 ∷ []
+part-one words from h = rw (drop-cons words from 0 h)

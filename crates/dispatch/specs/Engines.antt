@@ -1,7 +1,6 @@
 -- What the six engines count: trigger waits (H6) and quad-samples (H7), word by word as words are dispatched.
 -- A word counts by what its fields spell; every word that is dispatched has passed form.
 use Prim.Native.Nat.{ℕ, _+_, _*_, _^_, _≤_}
-use mathlib.Core.Bool.{Bool}
 use mathlib.Core.Path.{_≡_}
 use mathlib.Core.List.{List, [], _∷_, map}
 use lib.Dec.{eqb}
@@ -14,7 +13,6 @@ use Rattle.instruction.specs.declared.Instruction.{Instruction}
 use Rattle.instruction.specs.declared.Body.{Body}
 use Rattle.instruction.specs.declared.Body.the-variants.{Wait}
 use Rattle.sequence.specs.Placing.{onEngine}
-use Rattle.dispatch.specs.declared.Share.{Share}
 
 -- "each engine (waveform, markers 0 to 3 by engine select, modulator)": 0, 1 to 4, 5
 abbrev pub engineCount : ℕ
@@ -30,10 +28,6 @@ waitsFor = onEngine (λ f. pick (eqb (f .op) 1) 1 0) (λ f. pick (eqb (f .op) 1)
 -- H7: "play and modulate add count to their engine's quad-sample total on dispatch"; "Others add nothing"
 abbrev pub playsFor : Body → ℕ
 playsFor = onEngine (λ f. pick (plays (f .op)) (f .count .0) 0) (λ f. pick (plays (f .op)) (f .count .0) 0) (λ f. pick (modulates (f .op)) (f .payload) 0) 0
-
--- what an engine word adds to its engine's counts
-abbrev pub shareOf : ℕ → Bool → Bool → ℕ → Share
-shareOf engine awaits isPlay count = record { engine = engine; waits = pick awaits 1 0; plays = pick isPlay count 0 }
 
 -- one of six numbers more by v
 abbrev pub addTo : List ℕ → ℕ → ℕ → List ℕ
@@ -58,11 +52,6 @@ waitsOver waits (w ∷ ws) = waitsOver (waitsAfter waits (spelledBy w)) ws
 abbrev pub totalsOver : List ℕ → List ℕ → List ℕ
 totalsOver totals [] = totals
 totalsOver totals (w ∷ ws) = totalsOver (totalsAfter totals (spelledBy w)) ws
-
--- one word is counted
-pub record CountedOne (word : ℕ) (ws ts ws′ ts′ : List ℕ) : Type 0 where
-  pub waits : ws′ ≡ waitsAfter ws (spelledBy word)
-  pub totals : ts′ ≡ totalsAfter ts (spelledBy word)
 
 -- ---- bounds, so that no count can grow past its number
 

@@ -1,2 +1,3 @@
 pub mod Engines
+pub mod Counting
 pub mod Trace

@@ -1,12 +1,15 @@
 // Dispatch: a group of words goes into the lent trace, and the six engines count what was sent to them.
 // It goes out whole; whether there is room is asked before.
 ghost use mathlib.Core.Path.{_≡_};
+ghost use mathlib.Core.Bool.{true, false};
 ghost use mathlib.Core.List.{_++_};
 ghost use Prim.Native.Nat.{_+_, _^_, _≤_, _<_};
 ghost use lib.ListN.{length, drop};
 ghost use Rattle.instruction.specs.Bits.{pick, span};
 ghost use Rattle.instruction.specs.Table.{engineSelect};
-ghost use Rattle.dispatch.specs.Engines.{shareOf, engineOf, waitsFor, playsFor, plusOne, Six, Counted, CountedOne};
+ghost use Rattle.instruction.specs.Word.{spelledBy};
+ghost use Rattle.dispatch.specs.Engines.{plusOne, Six, Counted};
+ghost use Rattle.dispatch.specs.Counting.{shareOf, shareIn, Small, CountedOne};
 ghost use Rattle.dispatch.specs.Trace.{part, Dispatched, CountedAll, CanCount, CanDispatch};
 use instruction::Body;
 use instruction::EngineOp;
@@ -26,11 +29,12 @@ impl Engines {
     pub const MODULATOR: u64 = 5;
 }
 
-// What one word adds to the counts: to which engine, how many trigger waits, how many quad-samples.
+// What one word adds to the counts: to which engine, how many trigger waits, how many quad-samples; or, as WAIT does, one wait to all.
 pub struct Share {
     pub engine: u64,
     pub waits: u64,
     pub plays: u64,
+    pub all: bool,
 }
 
 impl Share {
@@ -47,22 +51,35 @@ impl Share {
             engine,
             waits: Share::given(awaits, 1),
             plays: Share::given(plays, count),
+            all: false,
         }
     }
 
     fn none() -> Share
-        ensures { λ r. ⌜ r ≡ record { engine = 0; waits = 0; plays = 0 } ⌝ }
+        ensures { λ r. ⌜ r ≡ record { engine = 0; waits = 0; plays = 0; all = false } ⌝ }
     {
         Share {
             engine: 0,
             waits: 0,
             plays: 0,
+            all: false,
+        }
+    }
+
+    fn for_all() -> Share
+        ensures { λ r. ⌜ r ≡ record { engine = 0; waits = 0; plays = 0; all = true } ⌝ }
+    {
+        Share {
+            engine: 0,
+            waits: 0,
+            plays: 0,
+            all: true,
         }
     }
 
     fn of(i: Instruction) -> Share
         requires { ⌜ i .engine < span engineSelect ⌝ }
-        ensures { λ r. ⌜ r ≡ record { engine = engineOf i; waits = waitsFor (i .body); plays = playsFor (i .body) } ⌝ }
+        ensures { λ r. ⌜ r ≡ shareIn i ⌝ }
     {
         let body = i.body;
         let marker = Engines::FIRST_MARKER + i.engine;
@@ -79,7 +96,7 @@ impl Share {
                 f.op == EngineOp::PLAY,
                 f.count.0,
             ),
-            Body::Wait => Share::none(),
+            Body::Wait => Share::for_all(),
             Body::LoadRepeat(_) => Share::none(),
             Body::Repeat(_) => Share::none(),
             Body::Cmp(_) => Share::none(),
@@ -98,6 +115,12 @@ impl Share {
             Body::Noop => Share::none(),
         }
     }
+
+    fn in_word(word: u64) -> Share
+        ensures { λ r. ⌜ r ≡ shareIn (spelledBy word) ⌝ }
+    {
+        Share::of(Instruction::spelled_by(word))
+    }
 }
 
 // WAIT: each of the six counts, one more.
@@ -112,17 +135,14 @@ fn plus_one(waits: &mut [u64; Engines::COUNT])
     }
 }
 
-// One dispatched word.
-fn count_word(word: u64, waits: &mut [u64; Engines::COUNT], totals: &mut [u64; Engines::COUNT])
-    requires { ⌜ Counted (2 ^ 31) (now waits) (now totals) ⌝ }
-    ensures { λ _. ⌜ CountedOne word (now (waits .entry)) (now (totals .entry)) (now (waits .exit)) (now (totals .exit)) ⌝ }
+// The engines count what one word adds.
+fn count(share: Share, waits: &mut [u64; Engines::COUNT], totals: &mut [u64; Engines::COUNT])
+    requires { ⌜ Counted (2 ^ 31) (now waits) (now totals) × Small share ⌝ }
+    ensures { λ _. ⌜ CountedOne share (now (waits .entry)) (now (totals .entry)) (now (waits .exit)) (now (totals .exit)) ⌝ }
 {
-    let i = Instruction::spelled_by(word);
-    let body = i.body;
-    let share = Share::of(i);
     let engine = share.engine as usize;
     totals[engine] = totals[engine] + share.plays;
-    if body.code() == Body::WAIT {
+    if share.all {
         plus_one(waits);
         return;
     }
@@ -145,12 +165,12 @@ fn write_group(
     while i < n {
         let word = words[from + i];
         room[i] = word;
-        count_word(word, waits, totals);
+        count(Share::in_word(word), waits, totals);
         i += 1;
     }
 }
 
-// The dispatcher: the group goes out whole, after the last dispatched word.
+// The dispatcher: the group goes out whole, after the last dispatched word. Most words go out alone.
 pub fn dispatch(
     words: &[u64],
     from: usize,
@@ -163,5 +183,11 @@ pub fn dispatch(
     requires { ⌜ CanDispatch (now words) from n (length (now trace)) len (now waits) (now totals) ⌝ }
     ensures { λ _. ⌜ Dispatched (part from n (now (words .entry))) len (now (trace .entry)) (now (waits .entry)) (now (totals .entry)) (now (trace .exit)) (now (waits .exit)) (now (totals .exit)) ⌝ }
 {
+    if n == 1 {
+        let word = words[from];
+        trace[len] = word;
+        count(Share::in_word(word), waits, totals);
+        return;
+    }
     write_group(words, from, n, &mut trace[len..], waits, totals);
 }
