@@ -157,7 +157,6 @@ rehearse-runs b e p = rw p
 pub can-go : (b : ℕ) (e : Fixed) → inputRefused (length (e .words)) (e .setting .wave .0) b ≡ 0 → CanGo b e fresh
 can-go b e p = record { good = fresh-good e; steps = omega (arith, input-good (length (e .words)) (e .setting .wave .0) b p .1) }
 
-pub rehearsed : (b : ℕ) (e : Fixed) {u v : List ℕ} {r : Stepped} {rs cs ws ts : List ℕ} → inputRefused (length (e .words)) (e .setting .wave .0) b ≡ 0
-    → Traced (runOf b e fresh) 0 u v r rs cs ws ts → Rehearsed (rehearse b e) u v (record { end = r .end; state = stateOf (r .core) rs cs ws ts })
-rehearsed b e {u} p d =
-    rw (rehearse-runs b e p) (record { answer = λ j. record { end = d .done .end j; state = d .done .state j }; trace = d .trace ∙ put-front u (runOf b e fresh .out) })
+pub rehearsed : (b : ℕ) (e : Fixed) {u v : List ℕ} {r : Stepped} {rs cs ws ts : List ℕ}
+    → Traced (runOf b e fresh) 0 u v r rs cs ws ts → Rehearsed (runOf b e fresh) u v (record { end = r .end; state = stateOf (r .core) rs cs ws ts })
+rehearsed b e {u} d = record { answer = λ j. record { end = d .done .end j; state = d .done .state j }; trace = d .trace ∙ put-front u (runOf b e fresh .out) }

@@ -98,25 +98,17 @@ fn go_on(
     Stepped::stop(Answer::BUDGET_SPENT, at)
 }
 
-// The run: input numbers first, then steps from the fresh state until one stops or the budget is spent.
-pub fn run(
+// Steps from the fresh state until one stops or the budget is spent.
+fn from_fresh(
     words: &[u64],
-    wave: QuadSamples,
     messages: &[u8],
-    triggers: u32,
     trace: &mut [u64],
     budget: u64,
+    setting: Setting,
 ) -> Answer
-    ensures { λ r. ⌜ Rehearsed (rehearse budget (fixedBy (now (words .entry)) (now (messages .entry)) (length (now (trace .entry))) (record { wave = wave; triggers = triggers }))) (now (trace .entry)) (now (trace .exit)) r ⌝ }
+    requires { ⌜ CanGo budget (fixedBy (now words) (now messages) (length (now trace)) setting) fresh ⌝ }
+    ensures { λ r. ⌜ Rehearsed (runOf budget (fixedBy (now (words .entry)) (now (messages .entry)) (length (now (trace .entry))) setting) fresh) (now (trace .entry)) (now (trace .exit)) r ⌝ }
 {
-    let refused = input_refused(words.len() as u64, wave.0, budget);
-    if refused != 0 {
-        return Answer::refused(refused);
-    }
-    let setting = Setting {
-        wave,
-        triggers: triggers as u64,
-    };
     let mut returns = [0; Sequence::STACK as usize];
     let mut counters = [0; Sequence::STACK as usize];
     let mut waits = [0; Engines::COUNT];
@@ -144,4 +136,26 @@ pub fn run(
         totals,
     };
     Answer { end, state }
+}
+
+// The run: input numbers first, then its steps.
+pub fn run(
+    words: &[u64],
+    wave: QuadSamples,
+    messages: &[u8],
+    triggers: u32,
+    trace: &mut [u64],
+    budget: u64,
+) -> Answer
+    ensures { λ r. ⌜ Rehearsed (rehearse budget (fixedBy (now (words .entry)) (now (messages .entry)) (length (now (trace .entry))) (record { wave = wave; triggers = triggers }))) (now (trace .entry)) (now (trace .exit)) r ⌝ }
+{
+    let refused = input_refused(words.len() as u64, wave.0, budget);
+    if refused != 0 {
+        return Answer::refused(refused);
+    }
+    let setting = Setting {
+        wave,
+        triggers: triggers as u64,
+    };
+    from_fresh(words, messages, trace, budget, setting)
 }
