@@ -19,7 +19,6 @@ use dispatch::Engines;
 use dispatch::dispatch;
 use instruction::Body;
 use instruction::Comparison;
-use instruction::Instruction;
 use instruction::QuadSamples;
 use instruction::Refusal;
 use instruction::WordAddress;

@@ -1,7 +1,6 @@
 -- Each return is where the tests before it failed and its own held.
 use mathlib.Core.Path.{_≡_, refl, sym, ap, _∙_}
 use mathlib.Core.Bool.{false}
-use Prim.Native.Nat.{ℕ}
 use denote.Ref.{now}
 use lib.ListN.{length}
 use Rattle.instruction.specs.declared.Instruction.{Instruction}
