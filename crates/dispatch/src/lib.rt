@@ -149,8 +149,8 @@ fn count(share: Share, waits: &mut [u64; Engines::COUNT], totals: &mut [u64; Eng
     waits[engine] = waits[engine] + share.waits;
 }
 
-// The group writer: the words of a group go out from the start of the part that is lent, and each is counted in its turn.
-fn write_group(
+// The words of a group, each counted in its turn.
+fn write_all(
     words: &[u64],
     from: usize,
     n: usize,
@@ -170,7 +170,28 @@ fn write_group(
     }
 }
 
-// The dispatcher: the group goes out whole, after the last dispatched word. Most words go out alone.
+// The group writer: the words of a group go out from the start of the part that is lent. Most words go out alone.
+fn write_group(
+    words: &[u64],
+    from: usize,
+    n: usize,
+    room: &mut [u64],
+    waits: &mut [u64; Engines::COUNT],
+    totals: &mut [u64; Engines::COUNT],
+)
+    requires { ⌜ CanCount (now words) from n (now waits) (now totals) × (n ≤ length (now room)) ⌝ }
+    ensures { λ _. ⌜ (now (room .exit) ≡ part from n (now (words .entry)) ++ drop n (now (room .entry))) × CountedAll (part from n (now (words .entry))) (now (waits .entry)) (now (totals .entry)) (now (waits .exit)) (now (totals .exit)) ⌝ }
+{
+    if n == 1 {
+        let word = words[from];
+        room[0] = word;
+        count(Share::in_word(word), waits, totals);
+        return;
+    }
+    write_all(words, from, n, room, waits, totals);
+}
+
+// The dispatcher: the group goes out whole, after the last dispatched word.
 pub fn dispatch(
     words: &[u64],
     from: usize,
@@ -183,11 +204,5 @@ pub fn dispatch(
     requires { ⌜ CanDispatch (now words) from n (length (now trace)) len (now waits) (now totals) ⌝ }
     ensures { λ _. ⌜ Dispatched (part from n (now (words .entry))) len (now (trace .entry)) (now (waits .entry)) (now (totals .entry)) (now (trace .exit)) (now (waits .exit)) (now (totals .exit)) ⌝ }
 {
-    if n == 1 {
-        let word = words[from];
-        trace[len] = word;
-        count(Share::in_word(word), waits, totals);
-        return;
-    }
     write_group(words, from, n, &mut trace[len..], waits, totals);
 }

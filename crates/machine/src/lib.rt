@@ -8,7 +8,6 @@ ghost use lib.ListN.{length};
 ghost use lib.Dec.{eqb};
 ghost use Rattle.instruction.specs.Bits.{pick};
 ghost use Rattle.instruction.specs.Table.{codeOf};
-ghost use Rattle.reader.specs.Reading.{instructionIn};
 ghost use Rattle.sequence.specs.Bounds.{budgetLimit};
 ghost use Rattle.dispatch.specs.Engines.{engineCount};
 ghost use Rattle.machine.specs.State.{fixedBy, stateOf, freshCore, withMessage, withSent, withCounter, withCondition, stopped, Done, Traced};
@@ -19,9 +18,11 @@ use dispatch::Engines;
 use dispatch::dispatch;
 use instruction::Body;
 use instruction::Comparison;
+use instruction::Instruction;
 use instruction::QuadSamples;
 use instruction::Refusal;
 use instruction::WordAddress;
+use reader::Reading;
 use reader::instruction_in;
 use reader::refusal_of;
 use sequence::Sequence;
@@ -441,13 +442,12 @@ fn breaks_group(held: u64, write: u64, body: Body) -> bool
 }
 
 // 20 and 21, then 22, of a word that comes while a group is held; else 0.
-fn group_refused(held: u64, word: u64, n: u64, wave: QuadSamples) -> u64
-    ensures { λ r. ⌜ r ≡ groupRefused held (instructionIn word) n (wave .0) ⌝ }
+fn group_refused(held: u64, i: Instruction, n: u64, wave: QuadSamples) -> u64
+    ensures { λ r. ⌜ r ≡ groupRefused held i n (wave .0) ⌝ }
 {
     if held == 0 {
         return 0;
     }
-    let i = instruction_in(word);
     let body = i.body;
     let placing = Sequence::placing(wave.0, n, body);
     if placing != 0 {
@@ -469,18 +469,17 @@ fn execute(
     waits: &mut [u64; Engines::COUNT],
     totals: &mut [u64; Engines::COUNT],
     s: Core,
-    word: u64,
+    i: Instruction,
     setting: Setting,
 ) -> Stepped
     requires { ⌜ At (fixedBy (now words) (now messages) (length (now trace)) setting) (stateOf s (now returns) (now counters) (now waits) (now totals)) ⌝ }
-    ensures { λ r. ⌜ Traced (executeOf (fixedBy (now (words .entry)) (now (messages .entry)) (length (now (trace .entry))) setting) (stateOf s (now (returns .entry)) (now (counters .entry)) (now (waits .entry)) (now (totals .entry))) (instructionIn word)) (s .sent) (now (trace .entry)) (now (trace .exit)) r (now (returns .exit)) (now (counters .exit)) (now (waits .exit)) (now (totals .exit)) ⌝ }
+    ensures { λ r. ⌜ Traced (executeOf (fixedBy (now (words .entry)) (now (messages .entry)) (length (now (trace .entry))) setting) (stateOf s (now (returns .entry)) (now (counters .entry)) (now (waits .entry)) (now (totals .entry))) i) (s .sent) (now (trace .entry)) (now (trace .exit)) r (now (returns .exit)) (now (counters .exit)) (now (waits .exit)) (now (totals .exit)) ⌝ }
 {
     let n = words.len() as u64;
-    let refused = group_refused(s.held, word, n, setting.wave);
+    let refused = group_refused(s.held, i, n, setting.wave);
     if refused != 0 {
         return Stepped::stop(refused, s);
     }
-    let i = instruction_in(word);
     let body = i.body;
     let placing = Sequence::placing(setting.wave.0, n, body);
     if placing != 0 {
@@ -521,10 +520,11 @@ pub fn step(
         return Stepped::stop(Sequence::PAST_THE_END, s);
     }
     let word = words[at];
-    let end = refusal_of(word);
-    if end.number != 0 {
+    let reading = Reading::of(refusal_of(word), instruction_in(word));
+    let Reading::Accepted(i) = reading else {
+        let end = reading.refusal();
         return Stepped { end, core: s };
-    }
+    };
     execute(
         words,
         messages,
@@ -534,7 +534,7 @@ pub fn step(
         waits,
         totals,
         s,
-        word,
+        i,
         setting,
     )
 }

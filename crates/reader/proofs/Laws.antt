@@ -10,7 +10,7 @@ use Rattle.instruction.specs.Form.{numbered, formOf}
 use Rattle.instruction.specs.declared.Refusal.{Refusal}
 use Rattle.instruction.specs.Table.{noopWord}
 use Rattle.instruction.specs.Word.{codeIn, spelledBy, noop}
-use Rattle.reader.specs.Reading.{hasUnnamed, notItsOp, formIn, instructionIn, readingOf, refusalOf, numberOf}
+use Rattle.reader.specs.Reading.{hasUnnamed, notItsOp, formIn, instructionIn, judged, readingOf, refusalOf, numberOf}
 use Rattle.reader.specs.declared.Reading.the-variants.{Accepted, Refused}
 
 pub reads-noop : (w : ℕ) → w ≡ noopWord → readingOf w ≡ Accepted noop
@@ -71,3 +71,11 @@ module _ (w : ℕ) where
       by : Dec (w ≡ noopWord) → Refused (refusalOf (readingOf w)) ≡ readingOf w
       by (yes e) = absurd (n (ap numberOf (reads-noop w e)))
       by (no h) = ap Refused (sym (refusal-form w h)) ∙ sym (refuses w h (λ z. n (sym (form-of h) ∙ z)))
+
+  -- a reading is put together out of its number and its instruction
+  pub puts-together : judged (numberOf (readingOf w)) (instructionIn w) ≡ readingOf w
+  puts-together = by (ℕ-discrete (numberOf (readingOf w)) 0)
+    where
+      by : Dec (numberOf (readingOf w) ≡ 0) → judged (numberOf (readingOf w)) (instructionIn w) ≡ readingOf w
+      by (yes z) = ap (λ (b : Bool). pick b (Accepted (instructionIn w)) (Refused (refusalOf (readingOf w)))) (eq-eqb (numberOf (readingOf w)) 0 z) ∙ reads-instruction z
+      by (no n) = ap (λ (b : Bool). pick b (Accepted (instructionIn w)) (Refused (refusalOf (readingOf w)))) (ne-eqb (numberOf (readingOf w)) 0 n) ∙ refuses-whole n

@@ -4,7 +4,7 @@ ghost use mathlib.Core.Path.{_≡_};
 ghost use Prim.Native.Nat.{_<_};
 ghost use lib.ListN.{getD};
 ghost use Rattle.reader.specs.Masks.{namedBits};
-ghost use Rattle.reader.specs.Reading.{refusalOf, hasUnnamed, notItsOp, formIn, instructionIn, readingOf};
+ghost use Rattle.reader.specs.Reading.{refusalOf, hasUnnamed, notItsOp, formIn, instructionIn, judged, readingOf};
 use instruction::Body;
 use instruction::EngineOp;
 use instruction::Instruction;
@@ -16,6 +16,16 @@ pub enum Reading {
 }
 
 impl Reading {
+    // An instruction, unless there is a refusal, whose number is then not 0.
+    pub fn of(refusal: Refusal, i: Instruction) -> Reading
+        ensures { λ r. ⌜ r ≡ judged (refusal .number) i ⌝ }
+    {
+        if refusal.number != 0 {
+            return Reading::Refused(refusal);
+        }
+        Reading::Accepted(i)
+    }
+
     // The refusal; number 0 where the word was accepted.
     pub fn refusal(self) -> Refusal
         ensures { λ r. ⌜ r ≡ refusalOf self ⌝ }
@@ -131,9 +141,5 @@ pub fn instruction_in(word: u64) -> Instruction
 pub fn read(word: u64) -> Reading
     ensures { λ r. ⌜ r ≡ readingOf word ⌝ }
 {
-    let refusal = refusal_of(word);
-    if refusal.number != 0 {
-        return Reading::Refused(refusal);
-    }
-    Reading::Accepted(instruction_in(word))
+    Reading::of(refusal_of(word), instruction_in(word))
 }

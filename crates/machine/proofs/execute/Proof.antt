@@ -1,13 +1,8 @@
 -- Each return is where the tests before it failed and its own held.
-use mathlib.Core.Path.{_≡_, refl, sym, ap, _∙_}
-use mathlib.Core.Bool.{false}
+use mathlib.Core.Path.{refl, sym, _∙_}
 use denote.Ref.{now}
 use lib.ListN.{length}
-use Rattle.instruction.specs.declared.Instruction.{Instruction}
-use Rattle.reader.specs.Reading.{instructionIn}
-use Rattle.sequence.specs.Placing.{placingOf}
 use Rattle.machine.specs.State.{Fixed, fixedBy, stateOf}
-use Rattle.machine.specs.Step.{executeOf, breaksGroup}
 use Rattle.machine.specs.declared.State.{State}
 use Rattle.machine.proofs.Laws.{quiet, stopped-done, execute-placed, execute-acts, group-refused, group-whole}
 use borrow.Author.Needs.{needs}
@@ -23,11 +18,8 @@ stop-requires c κs = search needs
 returns : tie.Need-returns
 returns c =
     let a = c .before .before .before .before .before .before .args in
-    rw (group-refused (fixedBy (now (a .words)) (now (a .messages)) (length (now (a .trace))) (a .setting)) (stateOf (a .s) (now (a .returns)) (now (a .counters)) (now (a .waits)) (now (a .totals))) (instructionIn (a .word)) _ (c .before .before .group-refused .ensures) (c .before .if1 .taken))
+    rw (group-refused (fixedBy (now (a .words)) (now (a .messages)) (length (now (a .trace))) (a .setting)) (stateOf (a .s) (now (a .returns)) (now (a .counters)) (now (a .waits)) (now (a .totals))) (a .i) _ (c .before .before .group-refused .ensures) (c .before .if1 .taken))
     (quiet (a .s .sent) (now (a .trace)) refl (stopped-done (c .stop .ensures)))
-
-instruction-in-requires : tie.Need-instruction-in-requires
-instruction-in-requires c κs = search needs
 
 placing-requires : tie.Need-placing-requires
 placing-requires c κs = search needs
@@ -37,9 +29,8 @@ stop-requires-2 c κs = search needs
 
 returns-2 : tie.Need-returns-2
 returns-2 c =
-    let a = c .before .before .before .before .before .before .before .before .before .args in
-    let p = c .before .before .placing .ensures ∙ ap (λ (i : Instruction). placingOf (a .setting .wave .0) (length (now (a .words))) (i .body)) (c .before .before .before .instruction-in .ensures) in
-    rw (execute-placed (fixedBy (now (a .words)) (now (a .messages)) (length (now (a .trace))) (a .setting)) (stateOf (a .s) (now (a .returns)) (now (a .counters)) (now (a .waits)) (now (a .totals))) (instructionIn (a .word)) (c .before .before .placing .result) p (c .before .if2 .taken))
+    let a = c .before .before .before .before .before .before .before .before .args in
+    rw (execute-placed (fixedBy (now (a .words)) (now (a .messages)) (length (now (a .trace))) (a .setting)) (stateOf (a .s) (now (a .returns)) (now (a .counters)) (now (a .waits)) (now (a .totals))) (a .i) (c .before .before .placing .result) (c .before .before .placing .ensures) (c .before .if2 .taken))
     (quiet (a .s .sent) (now (a .trace)) refl (stopped-done (c .stop2 .ensures)))
 
 act-requires : tie.Need-act-requires
@@ -50,15 +41,10 @@ same-length c = search needs
 
 returns-3 : tie.Need-returns-3
 returns-3 c =
-    let a = c .before .before .before .before .before .before .before .before .before .before .before .before .before .before .before .before .args in
+    let a = c .before .before .before .before .before .before .before .before .before .before .before .before .before .before .before .args in
     let e : Fixed = (fixedBy (now (a .words)) (now (a .messages)) (length (now (a .trace))) (a .setting)) in
     let s : State = (stateOf (a .s) (now (a .returns)) (now (a .counters)) (now (a .waits)) (now (a .totals))) in
-    let i : Instruction = c .before .before .before .before .before .before .before .before .before .before .instruction-in .result in
-    let q : i ≡ instructionIn (a .word) = c .before .before .before .before .before .before .before .before .before .before .instruction-in .ensures in
-    let p : placingOf (a .setting .wave .0) (length (now (a .words))) (i .body) ≡ 0 = sym (c .before .before .before .before .before .before .before .before .before .placing .ensures) ∙ c .before .before .before .before .before .before .before .before .if2 .left in
-    let whole : breaksGroup (a .s .held) (i .write) (i .body) ≡ false =
-    ap (λ (j : Instruction). breaksGroup (a .s .held) (j .write) (j .body)) q ∙ group-whole e s (instructionIn (a .word)) (sym (c .before .before .before .before .before .before .before .before .before .before .before .before .group-refused .ensures) ∙ c .before .before .before .before .before .before .before .before .before .before .before .if1 .left) in
-    rw (ap (executeOf e s) (sym q) ∙ execute-acts e s i p whole) (c .before .before .act .ensures)
+    rw (execute-acts e s (a .i) (sym (c .before .before .before .before .before .before .before .before .before .placing .ensures) ∙ c .before .before .before .before .before .before .before .before .if2 .left) (group-whole e s (a .i) (sym (c .before .before .before .before .before .before .before .before .before .before .before .group-refused .ensures) ∙ c .before .before .before .before .before .before .before .before .before .before .if1 .left))) (c .before .before .act .ensures)
 
 pub execute-spec : {M : Type 1} → statement M
 execute-spec =
@@ -67,7 +53,6 @@ execute-spec =
     group-refused-requires
     stop-requires
     returns
-    instruction-in-requires
     placing-requires
     stop-requires-2
     returns-2

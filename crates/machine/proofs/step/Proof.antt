@@ -1,11 +1,11 @@
--- By the address, and by the word's refusal.
-use mathlib.Core.Path.{_≡_, refl, sym, ap, _∙_}
-use Prim.Native.Nat.{ℕ}
+-- By the address, and by what the word reads as.
+use mathlib.Core.Path.{refl, sym, ap, ap₂, _∙_}
 use denote.Ref.{now}
-use lib.ListN.{length, getD}
+use lib.ListN.{length}
 use Rattle.instruction.specs.declared.Refusal.{Refusal}
-use Rattle.reader.specs.Reading.{readingOf, refusalOf, numberOf}
-use Rattle.reader.proofs.Laws.{reads-instruction, refuses-whole}
+use Rattle.instruction.specs.declared.Instruction.{Instruction}
+use Rattle.reader.specs.Reading.{refusalOf, judged}
+use Rattle.reader.proofs.Laws.{puts-together}
 use Rattle.machine.specs.State.{fixedBy, stateOf}
 use Rattle.machine.proofs.Laws.{quiet, stopped-done, refused-done, step-past, step-refused, step-accepted}
 use borrow.Author.Needs.{needs}
@@ -29,26 +29,37 @@ shared-slice-read-word c = search needs
 refusal-of-requires : tie.Need-refusal-of-requires
 refusal-of-requires c κs = search needs
 
+instruction-in-requires : tie.Need-instruction-in-requires
+instruction-in-requires c κs = search needs
+
+of-requires : tie.Need-of-requires
+of-requires c κs = search needs
+
+enum-known-reading : tie.Need-enum-known-reading
+enum-known-reading c = search needs
+
+enum-told : tie.Need-enum-told
+enum-told c = search needs
+
+refusal-requires : tie.Need-refusal-requires
+refusal-requires c κs = search needs
+
 returns-2 : tie.Need-returns-2
 returns-2 c =
-    let a = c .before .before .before .before .before .before .before .before .args in
-    let word : ℕ = getD (now (a .words)) (a .s .address .0) 0 in
-    let refused : numberOf (readingOf word) ≡ 0 → ⊥ = (λ z. c .if2 .taken (ap (λ (r : Refusal). r .number) (c .before .before .refusal-of .ensures) ∙ z)) in
-    rw (step-refused (fixedBy (now (a .words)) (now (a .messages)) (length (now (a .trace))) (a .setting)) (stateOf (a .s) (now (a .returns)) (now (a .counters)) (now (a .waits)) (now (a .totals))) (refusalOf (readingOf word)) (c .before .before .before .before .if1 .left) (sym (refuses-whole word refused)))
-    (quiet (a .s .sent) (now (a .trace)) refl (refused-done (c .before .before .refusal-of .ensures)))
+    let a = c .before .before .before .before .before .before .before .before .before .before .before .args in
+    rw (step-refused (fixedBy (now (a .words)) (now (a .messages)) (length (now (a .trace))) (a .setting)) (stateOf (a .s) (now (a .returns)) (now (a .counters)) (now (a .waits)) (now (a .totals))) _ (c .before .before .before .before .before .before .before .if1 .left) (sym (c .before .before .before .of .ensures ∙ ap₂ (λ (r : Refusal) (i : Instruction). judged (r .number) i) (c .before .before .before .before .before .refusal-of .ensures) (c .before .before .before .before .instruction-in .ensures) ∙ puts-together _) ∙ c .before .enum-told .given .1))
+    (quiet (a .s .sent) (now (a .trace)) refl (refused-done (c .refusal .ensures ∙ ap refusalOf (c .before .enum-told .given .1))))
 
 execute-requires : tie.Need-execute-requires
-execute-requires c κs = record { ready = c .before .before .before .before .before .before .before .before .before .before .before .before .before .pre; inside = c .before .before .before .before .before .before .before .before .before .if1 .left }
+execute-requires c κs = record { ready = c .before .before .before .before .before .before .before .before .before .before .before .before .before .before .before .before .pre; inside = c .before .before .before .before .before .before .before .before .before .before .before .before .if1 .left }
 
 same-length : tie.Need-same-length
 same-length c = search needs
 
 returns-3 : tie.Need-returns-3
 returns-3 c =
-    let a = c .before .before .before .before .before .before .before .before .before .before .before .before .before .before .before .before .args in
-    let word : ℕ = getD (now (a .words)) (a .s .address .0) 0 in
-    let accepted : numberOf (readingOf word) ≡ 0 = sym (ap (λ (r : Refusal). r .number) (c .before .before .before .before .before .before .before .before .before .before .refusal-of .ensures)) ∙ c .before .before .before .before .before .before .before .before .if2 .left in
-    rw (step-accepted (fixedBy (now (a .words)) (now (a .messages)) (length (now (a .trace))) (a .setting)) (stateOf (a .s) (now (a .returns)) (now (a .counters)) (now (a .waits)) (now (a .totals))) _ (c .before .before .before .before .before .before .before .before .before .before .before .before .if1 .left) (sym (reads-instruction word accepted))) (c .before .before .execute .ensures)
+    let a = c .before .before .before .before .before .before .before .before .before .before .before .before .before .before .before .before .before .before .before .args in
+    rw (step-accepted (fixedBy (now (a .words)) (now (a .messages)) (length (now (a .trace))) (a .setting)) (stateOf (a .s) (now (a .returns)) (now (a .counters)) (now (a .waits)) (now (a .totals))) _ (c .before .before .before .before .before .before .before .before .before .before .before .before .before .before .before .if1 .left) (sym (c .before .before .before .before .before .before .before .before .before .before .before .of .ensures ∙ ap₂ (λ (r : Refusal) (i : Instruction). judged (r .number) i) (c .before .before .before .before .before .before .before .before .before .before .before .before .before .refusal-of .ensures) (c .before .before .before .before .before .before .before .before .before .before .before .before .instruction-in .ensures) ∙ puts-together _) ∙ c .before .before .before .before .before .before .before .before .before .reading .given .1)) (c .before .before .execute .ensures)
 
 pub step-spec : {M : Type 1} → statement M
 step-spec =
@@ -59,6 +70,11 @@ step-spec =
     mul-word
     shared-slice-read-word
     refusal-of-requires
+    instruction-in-requires
+    of-requires
+    enum-known-reading
+    enum-told
+    refusal-requires
     returns-2
     execute-requires
     same-length

@@ -1,0 +1,13 @@
+-- By the number.
+use borrow.Author.Tests.{eq-eqb, ne-eqb}
+use Rattle.reader.proofs.Reading.of.Statement.{statement}
+use Rattle.reader.proofs.Reading.of.Tie as tie
+
+returns : tie.Need-returns
+returns c = rw (ne-eqb _ _ (c .if1 .taken))
+
+returns-2 : tie.Need-returns-2
+returns-2 c = rw (eq-eqb _ _ (c .if1 .left))
+
+pub of-spec : {M : Type 1} → statement M
+of-spec = tie.close (tie.spec returns returns-2)
