@@ -11,7 +11,8 @@ use Rattle.instruction.specs.Table.{bodyOf}
 use Rattle.instruction.specs.Word.{codeIn, valuesIn, spelledBy}
 use Rattle.flow.specs.declared.Move.{Move}
 use Rattle.flow.specs.declared.Move.the-variants.{Other}
-use Rattle.flow.specs.Move.{moveOf, goesOn}
+use Rattle.flow.specs.Masks.{goesOn}
+use Rattle.flow.specs.Move.{moveOf}
 
 -- of an op code that is known
 pub move-at : (w : ℕ) {n k : ℕ} → n ≡ codeIn w → n ≡ k → moveOf (bodyOf k (valuesIn k w)) ≡ moveOf (spelledBy w .body)

@@ -1,7 +1,13 @@
--- The masks that the code computes of a mark, all depths at once. Not for a reader of the contracts: proofs/Bits.antt says what each bit of them means.
+-- What the code computes: the masks of a mark, all depths at once, and the test of an op code. Not for a reader of the contracts:
+-- proofs/Bits.antt says what each bit of them means, and proofs/Codes.antt what the test tells.
 use mathlib.Core.Path.{_≡_}
 use Prim.Native.Nat.{ℕ, _*_, _/_, _%_, _^_}
+use mathlib.Core.Bool.{Bool, _||_}
+use lib.Dec.{ltb}
 use lib.Bits.{bitAnd, bitOr}
+use Rattle.instruction.specs.Table.{codeOf}
+use Rattle.instruction.specs.Word.{codeIn}
+use Rattle.instruction.specs.declared.Body.the-variants.{Repeat, Return}
 use Rattle.flow.specs.declared.Move.{Move}
 use Rattle.flow.specs.declared.Moves.{Moves}
 use Rattle.flow.specs.declared.Move.the-variants.{Other, Compare, Jump, Enter, Leave, Loop}
@@ -49,3 +55,7 @@ pub record Follows (lim : ℕ) (o : Move) (m r : ℕ) (f : Moves) : Type 0 where
   pub next : f .next ≡ nextOf o m r
   pub jump : f .jump ≡ jumpOf lim o m
   pub to : f .to ≡ toOf o
+
+-- an op code below REPEAT's or above RETURN's: the word goes on to the next address
+abbrev pub goesOn : ℕ → Bool
+goesOn word = ltb (codeIn word) (codeOf (Repeat (record { 0 = 0 }))) || ltb (codeOf (Return (record { 0 = 0 }))) (codeIn word)

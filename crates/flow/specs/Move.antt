@@ -1,10 +1,8 @@
 -- What an instruction is to the walk: five names have a rule of their own in H8, the others go on to the next address.
 use Prim.Native.Nat.{ℕ}
-use mathlib.Core.Bool.{Bool, _||_}
 use mathlib.Core.List.{List}
-use lib.Dec.{ltb}
 use lib.ListN.{getD}
-use Rattle.instruction.specs.Word.{codeIn, spelledBy}
+use Rattle.instruction.specs.Word.{spelledBy}
 use Rattle.instruction.specs.declared.Body.{Body}
 use Rattle.instruction.specs.declared.Body.the-variants as body
 use Rattle.flow.specs.declared.Move.{Move}
@@ -29,7 +27,3 @@ moveOf body.Noop = Other
 -- the move of the word at an address; the walk is defined for words that pass form, which read as what their fields spell
 abbrev pub moveAt : List ℕ → ℕ → Move
 moveAt words a = moveOf (spelledBy (getD words a 0) .body)
-
--- an op code below REPEAT's or above RETURN's: the word goes on to the next address (proofs/Codes.antt)
-abbrev pub goesOn : ℕ → Bool
-goesOn word = ltb (codeIn word) 4 || ltb 8 (codeIn word)

@@ -3,9 +3,9 @@
 ghost use mathlib.Core.Path.{_≡_};
 ghost use Prim.Native.Nat.{_*_, _^_, _≤_};
 ghost use Rattle.instruction.specs.Word.{spelledBy};
-ghost use Rattle.flow.specs.Move.{moveOf, goesOn};
+ghost use Rattle.flow.specs.Move.{moveOf};
 ghost use Rattle.flow.specs.Walk.{deepest};
-ghost use Rattle.flow.specs.Masks.{bareOf, heldOf, deeperOf, Follows};
+ghost use Rattle.flow.specs.Masks.{goesOn, bareOf, heldOf, deeperOf, Follows};
 use instruction::Body;
 use instruction::Instruction;
 use instruction::WordAddress;
