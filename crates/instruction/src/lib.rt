@@ -138,7 +138,7 @@ impl WaveformFields {
 
     pub const ADDRESS: Field = Field { low: 0, width: 24 };
 
-    fn spelled_by(word: u64) -> WaveformFields
+    pub fn spelled_by(word: u64) -> WaveformFields
         ensures { λ r. ⌜ r ≡ waveformOf (heldIn word (payloadOf 0)) ⌝ }
     {
         WaveformFields {

@@ -1,15 +1,21 @@
 -- Laws of reading: what a word reads as, by its tests.
 -- Assumes nothing.
-use mathlib.Core.Path.{_≡_, sym, ap, _∙_}
-use mathlib.Core.Bool.{Bool, true, false}
+use mathlib.Core.Path.{_≡_, refl, sym, ap, _∙_}
+use mathlib.Core.Bool.{Bool, true, false, not, _&&_}
+use mathlib.Core.List.{List}
 use native.Mathlib.Decide.{ℕ-discrete}
-use Prim.Native.Nat.{ℕ, _<_, _≤_}
-use borrow.Author.Tests.{eq-eqb, ne-eqb, le-leb, lt-leb}
-use Rattle.instruction.specs.Bits.{pick}
-use Rattle.instruction.specs.Form.{numbered, formOf}
+use Prim.Native.Nat.{ℕ, zero, suc, _<_, _≤_}
+use native.Mathlib.Omega.{arith}
+use lib.Dec.{eqb, leb}
+use borrow.Author.Tests.{eq-eqb, ne-eqb, eqb-true, le-leb, lt-leb, leb-true, le-ltb}
+use Rattle.instruction.specs.Bits.{pick, held, heldIn}
+use Rattle.instruction.specs.Form.{numbered, bodyForm, formOf}
 use Rattle.instruction.specs.declared.Refusal.{Refusal}
-use Rattle.instruction.specs.Table.{noopWord}
-use Rattle.instruction.specs.Word.{codeIn, spelledBy, noop}
+use Rattle.instruction.specs.Table.{writeFlag, payloadOf, waveformOf, bodyOf, noopWord}
+use Rattle.instruction.specs.Word.{codeIn, valuesIn, spelledBy, noop}
+use Rattle.instruction.specs.declared.WaveformFields.{WaveformFields}
+use Rattle.instruction.specs.declared.Body.the-variants.{Waveform}
+use Rattle.instruction.proofs.Laws.{form-at}
 use Rattle.reader.specs.Reading.{hasUnnamed, notItsOp, formIn, instructionIn, judged, readingOf, refusalOf, numberOf}
 use Rattle.reader.specs.declared.Reading.the-variants.{Accepted, Refused}
 
@@ -40,6 +46,56 @@ form-12 w h u o = rw (lt-leb 13 (codeIn w) h, u, o)
 pub form-rest : (w : ℕ) → codeIn w < 13 → hasUnnamed w ≡ false → notItsOp w ≡ false → formIn w ≡ formOf (spelledBy w)
 unfolding formIn
 form-rest w h u o = rw (lt-leb 13 (codeIn w) h, u, o)
+
+-- ---- the words that are met most
+
+not-a-wait : (w : ℕ) → (codeIn w ≡ 2 → ⊥) → (codeIn w ≡ 9 → ⊥) → notItsOp w ≡ false
+unfolding notItsOp
+not-a-wait w h k = rw (ne-eqb _ _ h, ne-eqb _ _ k)
+
+both : (a b : Bool) → (a && b) ≡ true → (a ≡ true) × (b ≡ true)
+both true b e = (refl, e)
+both false b e = (e, cc)
+
+long-play : (write : ℕ) (f : WaveformFields) → f .op ≡ 0 → 2 ≤ f .count .0 → bodyForm write (Waveform f) ≡ 0
+long-play write f e l = rw (e, le-ltb _ _ l)
+
+-- a play that has its bits, and is long enough
+pub play-passes : (w : ℕ) (u : Bool) (f : WaveformFields) → codeIn w ≡ 0 → u ≡ hasUnnamed w → f ≡ waveformOf (heldIn w (payloadOf 0))
+    → ((not u && eqb (f .op) 0) && leb 2 (f .count .0)) ≡ true → formIn w ≡ 0
+play-passes w u f z n e t =
+    let x = both (not u && eqb (f .op) 0) (leb 2 (f .count .0)) t in
+    let y = both (not u) (eqb (f .op) 0) (x .0) in
+    form-rest w (omega arith) (sym n ∙ not-true′ u (y .0)) (not-a-wait w (λ h. omega arith) (λ h. omega arith))
+    ∙ sym (form-at w refl z)
+    ∙ ap (λ (g : WaveformFields). bodyForm (held w writeFlag) (Waveform g)) (sym e)
+    ∙ long-play (held w writeFlag) f (eqb-true _ _ (y .1)) (leb-true _ _ (x .1))
+  where
+    not-true′ : (u : Bool) → not u ≡ true → u ≡ false
+    not-true′ true e = sym e
+    not-true′ false e = refl
+
+pub flow-codes : (n : ℕ) → (leb 3 n && leb n 8) ≡ true → (3 ≤ n) × (n ≤ 8)
+flow-codes n t = let x = both (leb 3 n) (leb n 8) t in (leb-true _ _ (x .0), leb-true _ _ (x .1))
+
+-- LOAD_REPEAT to RETURN have no form of their own
+flow-body : (n : ℕ) (vs : List ℕ) (write : ℕ) → 3 ≤ n → n ≤ 8 → bodyForm write (bodyOf n vs) ≡ 0
+flow-body zero vs write l h = absurd (omega arith)
+flow-body (suc zero) vs write l h = absurd (omega arith)
+flow-body (suc (suc zero)) vs write l h = absurd (omega arith)
+flow-body (suc (suc (suc zero))) vs write l h = refl
+flow-body (suc (suc (suc (suc zero)))) vs write l h = refl
+flow-body (suc (suc (suc (suc (suc zero))))) vs write l h = refl
+flow-body (suc (suc (suc (suc (suc (suc zero)))))) vs write l h = refl
+flow-body (suc (suc (suc (suc (suc (suc (suc zero))))))) vs write l h = refl
+flow-body (suc (suc (suc (suc (suc (suc (suc (suc zero)))))))) vs write l h = refl
+flow-body (suc (suc (suc (suc (suc (suc (suc (suc (suc n))))))))) vs write l h = absurd (omega arith)
+
+pub flow-passes : (w : ℕ) → 3 ≤ codeIn w → codeIn w ≤ 8 → hasUnnamed w ≡ false → formIn w ≡ 0
+flow-passes w l h u =
+    form-rest w (omega arith) u (not-a-wait w (λ e. omega arith) (λ e. omega arith))
+    ∙ sym (form-at w refl refl)
+    ∙ flow-body (codeIn w) (valuesIn (codeIn w) w) (held w writeFlag) l h
 
 -- ---- by the refusal
 

@@ -1,14 +1,18 @@
 // Reading: every 64-bit word is one instruction or has one form number.
 // The word is judged by all its bits, never by its header alone.
 ghost use mathlib.Core.Path.{_≡_};
-ghost use Prim.Native.Nat.{_<_};
+ghost use mathlib.Core.Bool.{true};
+ghost use Prim.Native.Nat.{_<_, _≤_};
+ghost use Rattle.instruction.specs.Word.{codeIn};
 ghost use lib.ListN.{getD};
 ghost use Rattle.reader.specs.Masks.{namedBits};
 ghost use Rattle.reader.specs.Reading.{refusalOf, hasUnnamed, notItsOp, formIn, instructionIn, judged, readingOf};
 use instruction::Body;
 use instruction::EngineOp;
 use instruction::Instruction;
+use instruction::QuadSamples;
 use instruction::Refusal;
+use instruction::WaveformFields;
 
 pub enum Reading {
     Accepted(Instruction),
@@ -112,6 +116,52 @@ fn form_in(word: u64) -> u64
     Instruction::form_in(word)
 }
 
+// A play with nothing wrong, which most words are.
+fn plays_well(word: u64) -> bool
+    requires { ⌜ codeIn word ≡ 0 ⌝ }
+    ensures { λ r. ⌜ (r ≡ true → formIn word ≡ 0) ⌝ }
+{
+    let f = WaveformFields::spelled_by(word);
+    !has_unnamed(word) & (f.op == EngineOp::PLAY) & (QuadSamples::SHORTEST <= f.count.0)
+}
+
+// The form number of a WAVEFORM.
+fn waveform_form(word: u64) -> u64
+    requires { ⌜ codeIn word ≡ 0 ⌝ }
+    ensures { λ r. ⌜ r ≡ formIn word ⌝ }
+{
+    if plays_well(word) {
+        return 0;
+    }
+    form_in(word)
+}
+
+// The form number of LOAD_REPEAT to RETURN: nothing but a bit that is not named can be wrong.
+fn flow_form(word: u64) -> u64
+    requires { ⌜ (3 ≤ codeIn word) × (codeIn word ≤ 8) ⌝ }
+    ensures { λ r. ⌜ r ≡ formIn word ⌝ }
+{
+    if has_unnamed(word) {
+        Refusal::UNNAMED_BIT
+    } else {
+        0
+    }
+}
+
+// The form number of a word that is not NOOP; the words that are met most come first.
+fn form_of(word: u64) -> u64
+    ensures { λ r. ⌜ r ≡ formIn word ⌝ }
+{
+    let code = Instruction::code_in(word);
+    if code == Body::WAVEFORM {
+        return waveform_form(word);
+    }
+    if (Body::LOAD_REPEAT <= code) & (code <= Body::RETURN) {
+        return flow_form(word);
+    }
+    form_in(word)
+}
+
 // The refusal of a word; number 0 where it is accepted.
 pub fn refusal_of(word: u64) -> Refusal
     ensures { λ r. ⌜ r ≡ refusalOf (readingOf word) ⌝ }
@@ -120,7 +170,7 @@ pub fn refusal_of(word: u64) -> Refusal
         return Refusal { number: 0 };
     }
     Refusal {
-        number: form_in(word),
+        number: form_of(word),
     }
 }
 
