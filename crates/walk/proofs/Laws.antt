@@ -14,6 +14,7 @@ use borrow.Author.Tests.{eqb-true, eqb-false}
 use lib.ListN.{length, getD, set, length-set}
 use lib.Seq.{getD-set-same, getD-set-other}
 use lib.Bits.{bitOr, or-add-and, and-le-r}
+use Rattle.instruction.specs.declared.WordAddress.{WordAddress}
 use Rattle.flow.specs.declared.Move.{Move}
 use Rattle.flow.specs.declared.Move.the-variants.{Other, Compare, Jump, Enter, Leave, Loop}
 use Rattle.flow.specs.Masks.{nextOf, jumpOf, toOf}
@@ -21,7 +22,7 @@ use Rattle.flow.specs.Move.{moveAt}
 use Rattle.flow.specs.Walk.{deepest, On, place, Reached, start}
 use Rattle.flow.proofs.Rules.{Onward, plain-on, cmp-on, goto-on, call-on, return-on, repeat-on, Leaps, goto-to, call-to, repeat-to, Walked, begin, on, over, back, walked, reached}
 use Rattle.flow.proofs.Bits.{or-left, or-right, or-on, zero-off, high-off, on-bare, bare-on, next-on, back-on, jump-on, Came, stepped, returned, on-next, Leapt, leapt, on-jump}
-use Rattle.walk.specs.Marks.{Exact, Sound, Backs, left, rest, HoldsAt, Put, same, more, Grew, ClosedAt, Turned, moved, still, Tells, holds, fails, backIn, Returns, Cleared, Part, Ahead, Visits, VisitDone, TurnIs, onward, hint, ended, Room, FollowDone, Since, fresh, since, AtHand, OpenIs, closed, first, load}
+use Rattle.walk.specs.Marks.{Exact, Sound, Backs, left, rest, HoldsAt, Put, same, more, Grew, ClosedAt, Turned, moved, still, Tells, holds, fails, backIn, Returns, Cleared, Part, Ahead, Visits, VisitDone, TurnIs, onward, hint, ended, Room, NoteDone, FollowDone, Since, fresh, since, AtHand, OpenIs, closed, first, load}
 use Rattle.walk.specs.declared.Trail.{Trail}
 use Rattle.sequence.specs.Bounds.{wordLimit}
 
@@ -181,6 +182,16 @@ backs-more lim ws r ms a m l sub b s d p =
 pub or-up : (r x : ℕ) → r ≤ bitOr r x
 or-up r x = omega (arith, or-add-and r x, and-le-r r x)
 
+pub or-zero : (r : ℕ) → bitOr r 0 ≡ r
+or-zero r = omega (arith, or-add-and r 0, and-le-r r 0)
+
+-- a word that is no RETURN adds no depth
+pub noted-none : (o : Move) (s : Trail) → Room s → backIn o (s .mark) ≡ 0 → NoteDone o s s
+noted-none o s room e = record { room = room; back = sym (ap (bitOr (s .back)) e ∙ or-zero (s .back)); rose = λ z. absurd (z refl); fell = le-refl _ }
+
+pub noted-call : (t : WordAddress) (s : Trail) (listed : ℕ) → Room s → listed ≤ wordLimit → NoteDone (Enter t) s (record { hints = s .hints; calls = listed; back = s .back; at = s .at; mark = s .mark })
+noted-call t s listed room l = record { room = record { hints = room .hints; calls = l }; back = sym (or-zero (s .back)); rose = λ z. absurd (z refl); fell = le-refl _ }
+
 module _ (lim : ℕ) (ws : List ℕ) (r : ℕ) (ms : List ℕ) (a m : ℕ) (fit : length ws ≤ length ms) (l : a < length ws) (sub : Part ms a m) where
   abbrev met : ℕ
   met = bitOr r (backIn (moveAt ws a) m)
@@ -295,9 +306,6 @@ visit-law lim ws r ms a m q x y t {ns} {os} {v} {w} fit l sub rose eq ex ey et p
         let k : rest ms q ≤ rest ms r = g₀ .less in
         let i = put-at (length ws) ns t y fit′ j z in
         (omega arith, i .0, λ b c. subst (λ (y : ℕ). On b y) (sym (i .1)) c)
-
-pub or-zero : (r : ℕ) → bitOr r 0 ≡ r
-or-zero r = omega (arith, or-add-and r 0, and-le-r r 0)
 
 -- a word that goes on to the next address puts its mark there
 pub visit-plain : (lim : ℕ) (ws : List ℕ) (r : ℕ) (ms : List ℕ) (a m : ℕ) {ns : List ℕ} {v : ℕ} → length ws ≤ length ms → a < length ws → Part ms a m → moveAt ws a ≡ Other

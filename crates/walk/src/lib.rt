@@ -8,6 +8,7 @@ ghost use Rattle.walk.specs.Marks.{backIn, Cleared, Fits, Room, NoteDone
 use flow::Mark;
 use flow::Move;
 use flow::Moves;
+use instruction::WordAddress;
 use sequence::Sequence;
 
 // Where the walk is: the hints held, the CALLs listed, the depths at which a RETURN was met, and the address at hand with its mark.
@@ -127,15 +128,48 @@ fn push_calls(
     top
 }
 
-// Whether a word is a CALL.
-fn enters(o: Move) -> bool {
-    match o {
-        Move::Other => false,
-        Move::Compare => false,
-        Move::Jump(_) => false,
-        Move::Enter(_) => true,
-        Move::Leave => false,
-        Move::Loop(_) => false,
+// A RETURN at hand: where it is met at a new depth, the CALLs that it leads back to are worth a visit.
+fn note_return(
+    marks: &[u64],
+    stack: &mut [u16; Sequence::WORDS as usize],
+    known: &mut [u8; Sequence::WORDS as usize],
+    calls: &[u16; Sequence::WORDS as usize],
+    s: Trail,
+) -> Trail
+    requires { ⌜ Room s ⌝ }
+    ensures { λ r. ⌜ NoteDone Move.Leave s r ⌝ }
+{
+    let met = Mark::bare(s.mark);
+    let back = s.back | met;
+    if back == s.back {
+        return s;
+    }
+    let hints = push_calls(marks, stack, known, calls, s, met);
+    Trail {
+        hints,
+        calls: s.calls,
+        back,
+        at: s.at,
+        mark: s.mark,
+    }
+}
+
+// A CALL at hand, to any target.
+fn note_call(
+    known: &mut [u8; Sequence::WORDS as usize],
+    calls: &mut [u16; Sequence::WORDS as usize],
+    s: Trail,
+) -> Trail
+    requires { ⌜ Room s ⌝ }
+    ensures { λ r. ⌜ ((t : WordAddress) → NoteDone (Move.Enter t) s r) ⌝ }
+{
+    let listed = list(calls, known, s.calls, s.at);
+    Trail {
+        hints: s.hints,
+        calls: listed,
+        back: s.back,
+        at: s.at,
+        mark: s.mark,
     }
 }
 
@@ -151,29 +185,14 @@ fn note(
     requires { ⌜ Room s ⌝ }
     ensures { λ r. ⌜ NoteDone o s r ⌝ }
 {
-    let met = back_of(o, s.mark);
-    let back = s.back | met;
-    if back != s.back {
-        let hints = push_calls(marks, stack, known, calls, s, met);
-        return Trail {
-            hints,
-            calls: s.calls,
-            back,
-            at: s.at,
-            mark: s.mark,
-        };
+    match o {
+        Move::Other => s,
+        Move::Compare => s,
+        Move::Jump(_) => s,
+        Move::Enter(_) => note_call(known, calls, s),
+        Move::Leave => note_return(marks, stack, known, calls, s),
+        Move::Loop(_) => s,
     }
-    if enters(o) {
-        let listed = list(calls, known, s.calls, s.at);
-        return Trail {
-            hints: s.hints,
-            calls: listed,
-            back: s.back,
-            at: s.at,
-            mark: s.mark,
-        };
-    }
-    s
 }
 
 // Bits put at an address, where it is below n: its mark where that set one, else 0.
