@@ -17,7 +17,8 @@ use lib.Bits.{bitOr, or-add-and, and-le-r}
 use Rattle.instruction.specs.declared.WordAddress.{WordAddress}
 use Rattle.flow.specs.declared.Move.{Move}
 use Rattle.flow.specs.declared.Move.the-variants.{Other, Compare, Jump, Enter, Leave, Loop}
-use Rattle.flow.specs.Masks.{nextOf, jumpOf, toOf}
+use Rattle.flow.specs.declared.Moves.{Moves}
+use Rattle.flow.specs.Masks.{nextOf, jumpOf, toOf, Follows}
 use Rattle.flow.specs.Move.{moveAt}
 use Rattle.flow.specs.Walk.{deepest, On, place, Reached, start}
 use Rattle.flow.proofs.Rules.{Onward, plain-on, cmp-on, goto-on, call-on, return-on, repeat-on, Leaps, goto-to, call-to, repeat-to, Walked, begin, on, over, back, walked, reached}
@@ -409,25 +410,58 @@ tells-no (fails f) = f
 pub tells-yes : {P : Type 0} → Tells P true → P
 tells-yes (holds p) = p
 
-pub tells-closed : (lim : ℕ) (ws : List ℕ) (r : ℕ) (ms : List ℕ) (a b x y t : ℕ) {c d : Bool}
-    → b ≡ backIn (moveAt ws a) (getD ms a 0) → x ≡ nextOf (moveAt ws a) (getD ms a 0) r → y ≡ jumpOf lim (moveAt ws a) (getD ms a 0) → t ≡ toOf (moveAt ws a)
-    → Tells (HoldsAt (length ws) ms (a + 1) x) c → Tells (HoldsAt (length ws) ms t y) d
-    → Tells (ClosedAt lim ws r ms a) ((eqb (bitOr r b) r && c) && d)
-tells-closed lim ws r ms a b x y t {c} {d} eb ex ey et u v = tells-as to from (tells-and (tells-and (tells-eq (bitOr r b) r) u) v)
-  where
-    to : ((bitOr r b ≡ r) × HoldsAt (length ws) ms (a + 1) x) × HoldsAt (length ws) ms t y → ClosedAt lim ws r ms a
-    to w =
-        record {
-          met = subst (λ (z : ℕ). bitOr r z ≡ r) eb (w .0 .0);
-          next = subst (λ (z : ℕ). HoldsAt (length ws) ms (a + 1) z) ex (w .0 .1);
-          jump = subst (λ (z : ℕ). HoldsAt (length ws) ms z (jumpOf lim (moveAt ws a) (getD ms a 0))) et (subst (λ (z : ℕ). HoldsAt (length ws) ms t z) ey (w .1));
-        }
+-- an address is closed where its parts are
+module _ (lim : ℕ) (ws : List ℕ) (r : ℕ) (ms : List ℕ) (a : ℕ) (o : Move) (f : Moves) (e : o ≡ moveAt ws a) (w : Follows lim o (getD ms a 0) r f) where
+  abbrev Parts : Type 0
+  Parts = (bitOr r (backIn o (getD ms a 0)) ≡ r) × HoldsAt (length ws) ms (a + 1) (f .next) × HoldsAt (length ws) ms (f .to) (f .jump)
 
-    from : ClosedAt lim ws r ms a → ((bitOr r b ≡ r) × HoldsAt (length ws) ms (a + 1) x) × HoldsAt (length ws) ms t y
-    from k = (
-      (subst (λ (z : ℕ). bitOr r z ≡ r) (sym eb) (k .met), subst (λ (z : ℕ). HoldsAt (length ws) ms (a + 1) z) (sym ex) (k .next)),
-      subst (λ (z : ℕ). HoldsAt (length ws) ms t z) (sym ey) (subst (λ (z : ℕ). HoldsAt (length ws) ms z (jumpOf lim (moveAt ws a) (getD ms a 0))) (sym et) (k .jump)),
-    )
+  tells-parts : {c : Bool} → Tells Parts c → Tells (ClosedAt lim ws r ms a) c
+  tells-parts t = tells-as to from t
+    where
+      m : ℕ
+      m = getD ms a 0
+
+      next : f .next ≡ nextOf (moveAt ws a) m r
+      next = w .next ∙ ap (λ (z : Move). nextOf z m r) e
+
+      jump : f .jump ≡ jumpOf lim (moveAt ws a) m
+      jump = w .jump ∙ ap (λ (z : Move). jumpOf lim z m) e
+
+      target : f .to ≡ toOf (moveAt ws a)
+      target = w .to ∙ ap toOf e
+
+      to : Parts → ClosedAt lim ws r ms a
+      to p =
+          record {
+            met = subst (λ (z : Move). bitOr r (backIn z m) ≡ r) e (p .0);
+            next = subst (λ (z : ℕ). HoldsAt (length ws) ms (a + 1) z) next (p .1);
+            jump = subst (λ (z : ℕ). HoldsAt (length ws) ms z (jumpOf lim (moveAt ws a) m)) target (subst (λ (z : ℕ). HoldsAt (length ws) ms (f .to) z) jump (p .2));
+          }
+
+      from : ClosedAt lim ws r ms a → Parts
+      from k = (
+        subst (λ (z : Move). bitOr r (backIn z m) ≡ r) (sym e) (k .met),
+        subst (λ (z : ℕ). HoldsAt (length ws) ms (a + 1) z) (sym next) (k .next),
+        subst (λ (z : ℕ). HoldsAt (length ws) ms (f .to) z) (sym jump) (subst (λ (z : ℕ). HoldsAt (length ws) ms z (jumpOf lim (moveAt ws a) m)) (sym target) (k .jump)),
+      )
+
+  no-depth : backIn o (getD ms a 0) ≡ 0 → bitOr r (backIn o (getD ms a 0)) ≡ r
+  no-depth z = ap (bitOr r) z ∙ or-zero r
+
+  no-jump : jumpOf lim o (getD ms a 0) ≡ 0 → HoldsAt (length ws) ms (f .to) (f .jump)
+  no-jump z = held-zero (length ws) ms (f .to) (f .jump) (w .jump ∙ z)
+
+  pub tells-next : {c : Bool} → backIn o (getD ms a 0) ≡ 0 → jumpOf lim o (getD ms a 0) ≡ 0 → Tells (HoldsAt (length ws) ms (a + 1) (f .next)) c → Tells (ClosedAt lim ws r ms a) c
+  tells-next z y t = tells-parts (tells-as (λ h. (no-depth z, h, no-jump y)) (λ p. p .1) t)
+
+  pub tells-both : {c : Bool} → backIn o (getD ms a 0) ≡ 0 → Tells (HoldsAt (length ws) ms (a + 1) (f .next) × HoldsAt (length ws) ms (f .to) (f .jump)) c → Tells (ClosedAt lim ws r ms a) c
+  tells-both z t = tells-parts (tells-as (λ h. (no-depth z, h .0, h .1)) (λ p. (p .1, p .2)) t)
+
+  pub tells-return : (b : ℕ) {c : Bool} → b ≡ backIn o (getD ms a 0) → jumpOf lim o (getD ms a 0) ≡ 0 → Tells (HoldsAt (length ws) ms (a + 1) (f .next)) c → Tells (ClosedAt lim ws r ms a) (c && eqb (bitOr r b) r)
+  tells-return b q y t =
+      tells-parts
+      (tells-as (λ h. (subst (λ (z : ℕ). bitOr r z ≡ r) q (h .1), h .0, no-jump y)) (λ p. (p .1, subst (λ (z : ℕ). bitOr r z ≡ r) (sym q) (p .0)))
+      (tells-and t (tells-eq (bitOr r b) r)))
 
 -- a word that goes on to the next address
 pub tells-plain : (lim : ℕ) (ws : List ℕ) (r : ℕ) (ms : List ℕ) (a : ℕ) {c : Bool} → moveAt ws a ≡ Other → Tells (HoldsAt (length ws) ms (a + 1) (getD ms a 0)) c → Tells (ClosedAt lim ws r ms a) c

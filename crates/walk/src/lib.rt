@@ -1,7 +1,7 @@
 // The places of the walk, marked in a lent buffer; the work grows linearly with the number of words.
 // Hints say which addresses are worth a visit and carry no promise: a last look at every address proves that nothing is missing.
 ghost use mathlib.Core.Path.{_≡_};
-ghost use Prim.Native.Nat.{_≤_, _<_};
+ghost use Prim.Native.Nat.{_+_, _≤_, _<_};
 ghost use lib.ListN.{length};
 ghost use Rattle.sequence.specs.Bounds.{wordLimit};
 ghost use Rattle.walk.specs.Marks.{backIn, Cleared, Fits, Room, NoteDone, Put, LeapDone, CanVisit, VisitDone, TurnIs, FollowDone, Tells, HoldsAt, ClosedAt, OpenIs, CanSettle, Marked};
@@ -200,9 +200,6 @@ fn put(n: usize, marks: &mut [u64], at: usize, x: u64) -> u64
     requires { ⌜ n ≤ length (now marks) ⌝ }
     ensures { λ r. ⌜ Put n (now (marks .entry)) at x (now (marks .exit)) r ⌝ }
 {
-    if x == 0 {
-        return 0;
-    }
     if n <= at {
         return 0;
     }
@@ -392,14 +389,20 @@ fn holds(n: usize, marks: &[u64], at: usize, x: u64) -> bool
     requires { ⌜ n ≤ length (now marks) ⌝ }
     ensures { λ r. ⌜ Tells (HoldsAt n (now (marks .entry)) at x) r ⌝ }
 {
-    if x == 0 {
-        return true;
-    }
     if n <= at {
         return true;
     }
     let old = marks[at];
     (old | x) == old
+}
+
+// Whether the next address and the target of an address hold what its moves put there.
+fn both_hold(n: usize, marks: &[u64], a: usize, f: Moves) -> bool
+    requires { ⌜ (n ≤ length (now marks)) × (a < n) ⌝ }
+    ensures { λ r. ⌜ Tells (HoldsAt n (now (marks .entry)) (a + 1) (f .next) × HoldsAt n (now (marks .entry)) (f .to) (f .jump)) r ⌝ }
+{
+    let to = f.to as usize;
+    holds(n, marks, a + 1, f.next) & holds(n, marks, to, f.jump)
 }
 
 // Whether all that an address leads to is marked.
@@ -415,11 +418,14 @@ fn is_closed(words: &[u64], marks: &[u64], a: usize, back: u64, limit: u64) -> b
     }
     let o = Move::at(word);
     let f = Moves::of(o, m, back, limit);
-    let to = f.to as usize;
-    let met = (back | back_of(o, m)) == back;
-    let next = holds(n, marks, a + 1, f.next);
-    let jump = holds(n, marks, to, f.jump);
-    met & next & jump
+    match o {
+        Move::Other => holds(n, marks, a + 1, f.next),
+        Move::Compare => holds(n, marks, a + 1, f.next),
+        Move::Jump(_) => both_hold(n, marks, a, f),
+        Move::Enter(_) => both_hold(n, marks, a, f),
+        Move::Leave => holds(n, marks, a + 1, f.next) & ((back | Mark::bare(m)) == back),
+        Move::Loop(_) => both_hold(n, marks, a, f),
+    }
 }
 
 // The first address that leads to what is not marked, or n.

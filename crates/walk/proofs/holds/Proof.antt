@@ -1,18 +1,15 @@
--- No bits are held everywhere, and any past the end.
+-- Any bits are held past the end.
 use native.Mathlib.Omega.{arith}
 use lib.ListN.{getD}
 use lib.Bits.{bitOr}
 use Rattle.walk.specs.Marks.{holds}
-use Rattle.walk.proofs.Laws.{held-zero, tells-as, tells-eq}
+use Rattle.walk.proofs.Laws.{tells-as, tells-eq}
 use borrow.Author.Needs.{needs}
 use Rattle.walk.proofs.holds.Statement.{statement}
 use Rattle.walk.proofs.holds.Tie as tie
 
 returns : tie.Need-returns
-returns c = let s = c .before .args in holds (held-zero (s .n) (s .marks .now) (s .at) (s .x) (c .if1 .taken))
-
-returns-2 : tie.Need-returns-2
-returns-2 c = holds (λ l. absurd (omega arith))
+returns c = holds (λ l. absurd (omega arith))
 
 mul-old : tie.Need-mul-old
 mul-old c = search needs
@@ -20,11 +17,11 @@ mul-old c = search needs
 shared-slice-read-old : tie.Need-shared-slice-read-old
 shared-slice-read-old c = search needs
 
-returns-3 : tie.Need-returns-3
-returns-3 c =
-    let s = c .before .before .before .args in
+returns-2 : tie.Need-returns-2
+returns-2 c =
+    let s = c .before .before .args in
     let old = getD (s .marks .now) (s .at) 0 in
-    tells-as (λ e l. e) (λ h. h (c .before .if2 .left)) (tells-eq (bitOr old (s .x)) old)
+    tells-as (λ e l. e) (λ h. h (c .before .if1 .left)) (tells-eq (bitOr old (s .x)) old)
 
 pub holds-spec : {M : Type 1} → statement M
-holds-spec = tie.close (tie.spec returns returns-2 mul-old shared-slice-read-old returns-3)
+holds-spec = tie.close (tie.spec returns mul-old shared-slice-read-old returns-2)

@@ -1,11 +1,11 @@
--- Three tests, of what the word leads to.
+-- Each arm tells of the parts that its move has.
 use mathlib.Core.Path.{sym, ap, _∙_}
 use lib.ListN.{getD}
 use Rattle.flow.specs.declared.Move.{Move}
-use Rattle.flow.specs.Masks.{nextOf, jumpOf, toOf}
+use Rattle.flow.specs.Masks.{jumpOf}
 use Rattle.flow.proofs.Codes.{goes-on}
 use Rattle.walk.specs.Marks.{backIn}
-use Rattle.walk.proofs.Laws.{tells-closed, tells-plain}
+use Rattle.walk.proofs.Laws.{tells-plain, tells-next, tells-both, tells-return}
 use borrow.Author.Needs.{needs}
 use Rattle.walk.proofs.is_closed.Statement.{statement}
 use Rattle.walk.proofs.is_closed.Tie as tie
@@ -42,8 +42,8 @@ at-requires c κs = search needs
 of-requires : tie.Need-of-requires
 of-requires c κs = search needs
 
-back-of-requires : tie.Need-back-of-requires
-back-of-requires c κs = search needs
+enum-told : tie.Need-enum-told
+enum-told c = search needs
 
 add-holds-2 : tie.Need-add-holds-2
 add-holds-2 c = search needs
@@ -51,22 +51,92 @@ add-holds-2 c = search needs
 holds-requires-2 : tie.Need-holds-requires-2
 holds-requires-2 c κs = search needs
 
+enum-told-2 : tie.Need-enum-told-2
+enum-told-2 c = search needs
+
+add-holds-3 : tie.Need-add-holds-3
+add-holds-3 c = search needs
+
 holds-requires-3 : tie.Need-holds-requires-3
 holds-requires-3 c κs = search needs
+
+enum-told-3 : tie.Need-enum-told-3
+enum-told-3 c = search needs
+
+both-hold-requires : tie.Need-both-hold-requires
+both-hold-requires c κs = search needs
+
+enum-told-4 : tie.Need-enum-told-4
+enum-told-4 c = search needs
+
+both-hold-requires-2 : tie.Need-both-hold-requires-2
+both-hold-requires-2 c κs = search needs
+
+enum-told-5 : tie.Need-enum-told-5
+enum-told-5 c = search needs
+
+add-holds-4 : tie.Need-add-holds-4
+add-holds-4 c = search needs
+
+holds-requires-4 : tie.Need-holds-requires-4
+holds-requires-4 c κs = search needs
+
+bare-requires : tie.Need-bare-requires
+bare-requires c κs = search needs
+
+enum-told-6 : tie.Need-enum-told-6
+enum-told-6 c = search needs
+
+both-hold-requires-3 : tie.Need-both-hold-requires-3
+both-hold-requires-3 c κs = search needs
 
 returns-2 : tie.Need-returns-2
 returns-2 c =
     let s = c .before .before .before .before .before .before .before .before .before .before .before .args in
-    let ms = s .marks .now in
-    let o = c .before .before .before .before .at .ensures in
+    let m = getD (s .marks .now) (s .a) 0 in
     let f = c .before .before .before .of in
-    tells-closed (s .limit) (s .words .now) (s .back) ms (s .a) (c .before .before .back-of .result) (f .result .next) (f .result .jump) (f .result .to)
-    (c .before .before .back-of .ensures ∙ ap (λ (z : Move). backIn z (getD ms (s .a) 0)) o)
-    (f .ensures .next ∙ ap (λ (z : Move). nextOf z (getD ms (s .a) 0) (s .back)) o)
-    (f .ensures .jump ∙ ap (λ (z : Move). jumpOf (s .limit) z (getD ms (s .a) 0)) o)
-    (f .ensures .to ∙ ap toOf o)
-    (c .before .holds2 .ensures)
-    (c .holds3 .ensures)
+    let e = c .before .enum-told .given .1 in
+    tells-next (s .limit) (s .words .now) (s .back) (s .marks .now) (s .a) _ (f .result) (c .before .before .before .before .at .ensures) (f .ensures) (ap (λ (o : Move). backIn o m) e) (ap (λ (o : Move). jumpOf (s .limit) o m) e) (c .holds2 .ensures)
+
+returns-3 : tie.Need-returns-3
+returns-3 c =
+    let s = c .before .before .before .before .before .before .before .before .before .before .before .args in
+    let m = getD (s .marks .now) (s .a) 0 in
+    let f = c .before .before .before .of in
+    let e = c .before .enum-told2 .given .1 in
+    tells-next (s .limit) (s .words .now) (s .back) (s .marks .now) (s .a) _ (f .result) (c .before .before .before .before .at .ensures) (f .ensures) (ap (λ (o : Move). backIn o m) e) (ap (λ (o : Move). jumpOf (s .limit) o m) e) (c .holds3 .ensures)
+
+returns-4 : tie.Need-returns-4
+returns-4 c =
+    let s = c .before .before .before .before .before .before .before .before .before .before .before .args in
+    let m = getD (s .marks .now) (s .a) 0 in
+    let f = c .before .before .before .of in
+    let e = c .before .enum-told3 .given .1 in
+    tells-both (s .limit) (s .words .now) (s .back) (s .marks .now) (s .a) _ (f .result) (c .before .before .before .before .at .ensures) (f .ensures) (ap (λ (o : Move). backIn o m) e) (c .both-hold .ensures)
+
+returns-5 : tie.Need-returns-5
+returns-5 c =
+    let s = c .before .before .before .before .before .before .before .before .before .before .before .args in
+    let m = getD (s .marks .now) (s .a) 0 in
+    let f = c .before .before .before .of in
+    let e = c .before .enum-told4 .given .1 in
+    tells-both (s .limit) (s .words .now) (s .back) (s .marks .now) (s .a) _ (f .result) (c .before .before .before .before .at .ensures) (f .ensures) (ap (λ (o : Move). backIn o m) e) (c .both-hold2 .ensures)
+
+returns-6 : tie.Need-returns-6
+returns-6 c =
+    let s = c .before .before .before .before .before .before .before .before .before .before .before .before .args in
+    let m = getD (s .marks .now) (s .a) 0 in
+    let f = c .before .before .before .before .of in
+    let e = c .before .before .enum-told5 .given .1 in
+    tells-return (s .limit) (s .words .now) (s .back) (s .marks .now) (s .a) _ (f .result) (c .before .before .before .before .before .at .ensures) (f .ensures) (c .bare .result) (c .bare .ensures ∙ sym (ap (λ (o : Move). backIn o m) e)) (ap (λ (o : Move). jumpOf (s .limit) o m) e) (c .before .holds4 .ensures)
+
+returns-7 : tie.Need-returns-7
+returns-7 c =
+    let s = c .before .before .before .before .before .before .before .before .before .before .before .args in
+    let m = getD (s .marks .now) (s .a) 0 in
+    let f = c .before .before .before .of in
+    let e = c .before .enum-told6 .given .1 in
+    tells-both (s .limit) (s .words .now) (s .back) (s .marks .now) (s .a) _ (f .result) (c .before .before .before .before .at .ensures) (f .ensures) (ap (λ (o : Move). backIn o m) e) (c .both-hold3 .ensures)
 
 pub is-closed-spec : {M : Type 1} → statement M
 is-closed-spec =
@@ -82,8 +152,25 @@ is-closed-spec =
     returns
     at-requires
     of-requires
-    back-of-requires
+    enum-told
     add-holds-2
     holds-requires-2
+    enum-told-2
+    add-holds-3
     holds-requires-3
-    returns-2)
+    enum-told-3
+    both-hold-requires
+    enum-told-4
+    both-hold-requires-2
+    enum-told-5
+    add-holds-4
+    holds-requires-4
+    bare-requires
+    enum-told-6
+    both-hold-requires-3
+    returns-2
+    returns-3
+    returns-4
+    returns-5
+    returns-6
+    returns-7)

@@ -4,16 +4,12 @@ use native.Mathlib.Omega.{arith}
 use lib.ListN.{getD}
 use lib.Bits.{bitOr, or-add-and, and-le-r}
 use Rattle.walk.specs.Marks.{same, more}
-use Rattle.walk.proofs.Laws.{held-zero}
 use borrow.Author.Needs.{needs}
 use Rattle.walk.proofs.put.Statement.{statement}
 use Rattle.walk.proofs.put.Tie as tie
 
 returns : tie.Need-returns
-returns c = let s = c .before .args in same (held-zero (s .n) (s .marks .now) (s .at) (s .x) (c .if1 .taken))
-
-returns-2 : tie.Need-returns-2
-returns-2 c = same (λ l. absurd (omega arith))
+returns c = same (λ l. absurd (omega arith))
 
 mul-old : tie.Need-mul-old
 mul-old c = search needs
@@ -21,8 +17,8 @@ mul-old c = search needs
 slice-read-old : tie.Need-slice-read-old
 slice-read-old c = search needs
 
-returns-3 : tie.Need-returns-3
-returns-3 c = same (λ l. c .if3 .taken)
+returns-2 : tie.Need-returns-2
+returns-2 c = same (λ l. c .if2 .taken)
 
 mul-marks : tie.Need-mul-marks
 mul-marks c = search needs
@@ -33,13 +29,13 @@ slice-write-marks c = search needs
 same-length : tie.Need-same-length
 same-length c = search needs
 
-returns-4 : tie.Need-returns-4
-returns-4 c =
-    let s = c .before .before .before .before .args in
+returns-3 : tie.Need-returns-3
+returns-3 c =
+    let s = c .before .before .before .args in
     let old = getD (s .marks .now) (s .at) 0 in
     let new = bitOr old (s .x) in
-    let below : s .at < s .n = c .before .before .if2 .left in
-    let up : old < new = omega (arith, or-add-and old (s .x), and-le-r old (s .x), c .if3 .left) in
+    let below : s .at < s .n = c .before .before .if1 .left in
+    let up : old < new = omega (arith, or-add-and old (s .x), and-le-r old (s .x), c .if2 .left) in
     let fit : old < 2 ^ 64 = omega (arith, c .before .slice-known .given (s .at)) in
     more below up fit
 
@@ -48,11 +44,10 @@ put-spec =
     tie.close
     (tie.spec
     returns
-    returns-2
     mul-old
     slice-read-old
-    returns-3
+    returns-2
     mul-marks
     slice-write-marks
     same-length
-    returns-4)
+    returns-3)
