@@ -23,8 +23,8 @@ use instruction::WaveformFields;
 use instruction::WordAddress;
 use listing::list;
 use machine::Condition;
-use reader::instruction_in;
-use reader::refusal_of;
+use reader::Reading;
+use reader::read_at_once;
 use rehearsal::Answer;
 use rehearsal::run;
 use verdict::Verdict;
@@ -78,13 +78,17 @@ fn fields_of(i: Instruction) -> [u64; Lent::FIELDS]
 pub extern "C" fn aps2_read(word: u64, fields: &mut [u64; Lent::FIELDS]) -> u64
     ensures { λ r. ⌜ Read (readingOf word) r (now (fields .exit)) ⌝ }
 {
-    let refusal = refusal_of(word);
-    if refusal.number != 0 {
-        *fields = [0; Lent::FIELDS];
-        return refusal.number;
+    let reading = read_at_once(word);
+    match reading {
+        Reading::Accepted(i) => {
+            *fields = fields_of(i);
+            0
+        }
+        Reading::Refused(r) => {
+            *fields = [0; Lent::FIELDS];
+            r.number
+        }
     }
-    *fields = fields_of(instruction_in(word));
-    0
 }
 
 fn body_of(code: u64, fields: &[u64; Lent::FIELDS]) -> Body

@@ -46,7 +46,7 @@ impl WordAddress {
     // Instructions are prefetched from a multiple of this.
     pub const PREFETCHED: u64 = 128;
 
-    fn spelled_by(word: u64) -> WordAddress
+    pub fn spelled_by(word: u64) -> WordAddress
         ensures { λ r. ⌜ r ≡ record { 0 = held word target } ⌝ }
     {
         WordAddress((word >> WordAddress::PLACE.low) % (1 << WordAddress::PLACE.width))
@@ -174,7 +174,7 @@ impl WaveformFields {
             & (self.address.0 < 1 << WaveformFields::ADDRESS.width)
     }
 
-    fn form(self) -> u64
+    pub fn form(self) -> u64
         ensures { λ r. ⌜ r ≡ bodyForm 0 (Body.Waveform self) ⌝ }
     {
         let op = self.op;
@@ -212,7 +212,7 @@ impl MarkerFields {
 
     pub const COUNT: Field = Field { low: 0, width: 32 };
 
-    fn spelled_by(word: u64) -> MarkerFields
+    pub fn spelled_by(word: u64) -> MarkerFields
         ensures { λ r. ⌜ r ≡ markerOf (heldIn word (payloadOf 1)) ⌝ }
     {
         MarkerFields {
@@ -247,7 +247,7 @@ impl MarkerFields {
             & (self.count.0 < 1 << MarkerFields::COUNT.width)
     }
 
-    fn form(self) -> u64
+    pub fn form(self) -> u64
         ensures { λ r. ⌜ r ≡ bodyForm 0 (Body.Marker self) ⌝ }
     {
         let op = self.op;
@@ -274,7 +274,7 @@ pub struct Repeats(pub u64);
 impl Repeats {
     pub const PLACE: Field = Field { low: 0, width: 16 };
 
-    fn spelled_by(word: u64) -> Repeats
+    pub fn spelled_by(word: u64) -> Repeats
         ensures { λ r. ⌜ r ≡ record { 0 = held word repeatCount } ⌝ }
     {
         Repeats((word >> Repeats::PLACE.low) % (1 << Repeats::PLACE.width))
@@ -304,7 +304,7 @@ impl Comparison {
 
     pub const ABOVE: u64 = 2;
 
-    fn spelled_by(word: u64) -> Comparison
+    pub fn spelled_by(word: u64) -> Comparison
         ensures { λ r. ⌜ r ≡ comparisonOf (heldIn word (payloadOf 5)) ⌝ }
     {
         Comparison {
@@ -375,7 +375,7 @@ impl ModulatorFields {
     // Increment, offset and frame are UQ2.28.
     pub const PHASES: u64 = 1 << 30;
 
-    fn spelled_by(word: u64) -> ModulatorFields
+    pub fn spelled_by(word: u64) -> ModulatorFields
         ensures { λ r. ⌜ r ≡ modulatorOf (heldIn word (payloadOf 10)) ⌝ }
     {
         ModulatorFields {
@@ -404,7 +404,7 @@ impl ModulatorFields {
             & (self.payload < 1 << ModulatorFields::PAYLOAD.width)
     }
 
-    fn form(self) -> u64
+    pub fn form(self) -> u64
         ensures { λ r. ⌜ r ≡ bodyForm 0 (Body.Modulator self) ⌝ }
     {
         let op = self.op;

@@ -11,9 +11,11 @@ use borrow.Author.Tests.{eq-eqb, ne-eqb, eqb-true, le-leb, lt-leb, leb-true, le-
 use Rattle.instruction.specs.Bits.{pick, held, heldIn}
 use Rattle.instruction.specs.Form.{numbered, bodyForm, formOf}
 use Rattle.instruction.specs.declared.Refusal.{Refusal}
-use Rattle.instruction.specs.Table.{writeFlag, payloadOf, waveformOf, bodyOf, noopWord}
+use Rattle.instruction.specs.Table.{engineSelect, writeFlag, payloadOf, waveformOf, bodyOf, noopWord}
 use Rattle.instruction.specs.Word.{codeIn, valuesIn, spelledBy, noop}
 use Rattle.instruction.specs.declared.WaveformFields.{WaveformFields}
+use Rattle.instruction.specs.declared.Instruction.{Instruction}
+use Rattle.instruction.specs.declared.Body.{Body}
 use Rattle.instruction.specs.declared.Body.the-variants.{Waveform}
 use Rattle.instruction.proofs.Laws.{form-at}
 use Rattle.reader.specs.Reading.{hasUnnamed, notItsOp, formIn, instructionIn, judged, readingOf, refusalOf, numberOf}
@@ -135,3 +137,23 @@ module _ (w : ℕ) where
       by : Dec (numberOf (readingOf w) ≡ 0) → judged (numberOf (readingOf w)) (instructionIn w) ≡ readingOf w
       by (yes z) = ap (λ (b : Bool). pick b (Accepted (instructionIn w)) (Refused (refusalOf (readingOf w)))) (eq-eqb (numberOf (readingOf w)) 0 z) ∙ reads-instruction z
       by (no n) = ap (λ (b : Bool). pick b (Accepted (instructionIn w)) (Refused (refusalOf (readingOf w)))) (ne-eqb (numberOf (readingOf w)) 0 n) ∙ refuses-whole n
+
+-- ---- by the op code
+
+pub reads-form : (w : ℕ) → (w ≡ noopWord → ⊥) → readingOf w ≡ judged (formIn w) (spelledBy w)
+unfolding readingOf
+reads-form w h = rw (ne-eqb _ _ h)
+
+-- what is laid out by a known op code, with the number that is given for it
+module _ (w : ℕ) {c : ℕ} (k : ℕ) (e : c ≡ codeIn w) (q : c ≡ k) where
+  spells : {b : Body} → b ≡ bodyOf k (valuesIn k w) → record { engine = held w engineSelect; write = held w writeFlag; body = b } ≡ spelledBy w
+  unfolding spelledBy
+  spells p = ap (λ (b : Body). record { engine = held w engineSelect; write = held w writeFlag; body = b }) (p ∙ ap (λ (n : ℕ). bodyOf n (valuesIn n w)) (sym q ∙ e))
+
+  pub read-by : {n : ℕ} {b : Body} → n ≡ formIn w → b ≡ bodyOf k (valuesIn k w) → judged n (record { engine = held w engineSelect; write = held w writeFlag; body = b }) ≡ judged (formIn w) (spelledBy w)
+  read-by {n} f p = ap (judged n) (spells p) ∙ ap (λ (n : ℕ). judged n (spelledBy w)) f
+
+  -- the op codes but WAIT's and SYNC's
+  pub read-as : {n : ℕ} {b : Body} → codeIn w < 13 → hasUnnamed w ≡ false → (k ≡ 2 → ⊥) → (k ≡ 9 → ⊥) → n ≡ bodyForm (held w writeFlag) (bodyOf k (valuesIn k w)) → b ≡ bodyOf k (valuesIn k w)
+      → judged n (record { engine = held w engineSelect; write = held w writeFlag; body = b }) ≡ judged (formIn w) (spelledBy w)
+  read-as l u wait sync f p = read-by (f ∙ form-at w e q ∙ sym (form-rest w l u (not-a-wait w (λ z. wait (sym q ∙ e ∙ z)) (λ z. sync (sym q ∙ e ∙ z))))) p

@@ -1,18 +1,26 @@
 // Reading: every 64-bit word is one instruction or has one form number.
 // The word is judged by all its bits, never by its header alone.
 ghost use mathlib.Core.Path.{_≡_};
-ghost use mathlib.Core.Bool.{true};
+ghost use mathlib.Core.Bool.{true, false};
 ghost use Prim.Native.Nat.{_<_, _≤_};
-ghost use Rattle.instruction.specs.Word.{codeIn};
+ghost use Rattle.instruction.specs.Bits.{held};
+ghost use Rattle.instruction.specs.Table.{engineSelect, writeFlag};
+ghost use Rattle.instruction.specs.Word.{codeIn, spelledBy};
 ghost use lib.ListN.{getD};
 ghost use Rattle.reader.specs.Masks.{namedBits};
 ghost use Rattle.reader.specs.Reading.{refusalOf, hasUnnamed, notItsOp, formIn, instructionIn, judged, readingOf};
 use instruction::Body;
+use instruction::Comparison;
 use instruction::EngineOp;
+use instruction::Ignored;
 use instruction::Instruction;
+use instruction::MarkerFields;
+use instruction::ModulatorFields;
 use instruction::QuadSamples;
 use instruction::Refusal;
+use instruction::Repeats;
 use instruction::WaveformFields;
+use instruction::WordAddress;
 
 pub enum Reading {
     Accepted(Instruction),
@@ -192,4 +200,77 @@ pub fn read(word: u64) -> Reading
     ensures { λ r. ⌜ r ≡ readingOf word ⌝ }
 {
     Reading::of(refusal_of(word), instruction_in(word))
+}
+
+// What a word that is not NOOP reads as, of its number and the body that it spells.
+fn judge(number: u64, word: u64, body: Body) -> Reading
+    ensures { λ r. ⌜ r ≡ judged number (record { engine = held word engineSelect; write = held word writeFlag; body = body }) ⌝ }
+{
+    if number != 0 {
+        return Reading::Refused(Refusal { number });
+    }
+    Reading::Accepted(Instruction {
+        engine: Instruction::engine_in(word),
+        write: Instruction::write_in(word),
+        body,
+    })
+}
+
+// A word whose bits are named, by its op code.
+fn read_named(word: u64) -> Reading
+    requires { ⌜ (codeIn word < 13) × (hasUnnamed word ≡ false) ⌝ }
+    ensures { λ r. ⌜ r ≡ judged (formIn word) (spelledBy word) ⌝ }
+{
+    match Instruction::code_in(word) {
+        Body::WAVEFORM => {
+            let f = WaveformFields::spelled_by(word);
+            judge(f.form(), word, Body::Waveform(f))
+        }
+        Body::MARKER => {
+            let f = MarkerFields::spelled_by(word);
+            judge(f.form(), word, Body::Marker(f))
+        }
+        Body::WAIT => judge(form_in(word), word, Body::Wait),
+        Body::LOAD_REPEAT => judge(0, word, Body::LoadRepeat(Repeats::spelled_by(word))),
+        Body::REPEAT => judge(0, word, Body::Repeat(WordAddress::spelled_by(word))),
+        Body::CMP => judge(0, word, Body::Cmp(Comparison::spelled_by(word))),
+        Body::GOTO => judge(0, word, Body::Goto(WordAddress::spelled_by(word))),
+        Body::CALL => judge(0, word, Body::Call(WordAddress::spelled_by(word))),
+        Body::RETURN => judge(0, word, Body::Return(Ignored(0))),
+        Body::SYNC => judge(form_in(word), word, Body::Sync),
+        Body::MODULATOR => {
+            let f = ModulatorFields::spelled_by(word);
+            judge(f.form(), word, Body::Modulator(f))
+        }
+        Body::LOAD_CMP => judge(0, word, Body::LoadCmp(Ignored(0))),
+        _ => judge(
+            form_in(word),
+            word,
+            Body::Prefetch(WordAddress::spelled_by(word)),
+        ),
+    }
+}
+
+// The same as `read`, for a caller that takes the reading apart at once.
+pub fn read_at_once(word: u64) -> Reading
+    ensures { λ r. ⌜ r ≡ readingOf word ⌝ }
+{
+    if word == Instruction::NOOP {
+        return Reading::Accepted(Instruction {
+            engine: 0,
+            write: 0,
+            body: Body::Noop,
+        });
+    }
+    if Body::PREFETCH < Instruction::code_in(word) {
+        return Reading::Refused(Refusal {
+            number: Refusal::NO_SUCH_CODE,
+        });
+    }
+    if has_unnamed(word) {
+        return Reading::Refused(Refusal {
+            number: Refusal::UNNAMED_BIT,
+        });
+    }
+    read_named(word)
 }

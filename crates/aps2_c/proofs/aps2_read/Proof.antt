@@ -1,28 +1,40 @@
 -- Number and fields are those of the reading.
 use mathlib.Core.Path.{sym, ap, _∙_}
-use Rattle.instruction.specs.declared.Refusal.{Refusal}
-use Rattle.reader.proofs.Laws.{reads-instruction, refuses-whole}
-use Rattle.aps2_c.specs.Fields.{fieldsOf, told}
+use Rattle.reader.specs.Reading.{numberOf}
+use Rattle.aps2_c.specs.Fields.{told}
 use borrow.Author.Needs.{needs}
 use Rattle.aps2_c.proofs.aps2_read.Statement.{statement}
 use Rattle.aps2_c.proofs.aps2_read.Tie as tie
 
-refusal-of-requires : tie.Need-refusal-of-requires
-refusal-of-requires c κs = search needs
+read-at-once-requires : tie.Need-read-at-once-requires
+read-at-once-requires c κs = search needs
 
-returns : tie.Need-returns
-returns c = let e = ap (λ (r : Refusal). r .number) (c .before .before .before .refusal-of .ensures) in record { number = e; fields = ap told (refuses-whole (c .before .before .before .before .args .word) (λ z. c .before .if1 .taken (e ∙ z))) }
-
-instruction-in-requires : tie.Need-instruction-in-requires
-instruction-in-requires c κs = search needs
+enum-known-reading : tie.Need-enum-known-reading
+enum-known-reading c = search needs
 
 fields-of-requires : tie.Need-fields-of-requires
 fields-of-requires c κs = search needs
 
+enum-known-reading-2 : tie.Need-enum-known-reading-2
+enum-known-reading-2 c = search needs
+
+returns : tie.Need-returns
+returns c =
+    let e = sym (c .before .before .reading .given .1) ∙ c .before .before .before .before .read-at-once .ensures in
+    record { number = ap numberOf e; fields = c .fields-of .ensures ∙ ap told e }
+
 returns-2 : tie.Need-returns-2
-returns-2 c = let z = sym (ap (λ (r : Refusal). r .number) (c .before .before .before .before .refusal-of .ensures)) ∙ c .before .before .if1 .left in record { number = sym z; fields = c .fields-of .ensures ∙ ap fieldsOf (c .before .instruction-in .ensures) ∙ ap told (reads-instruction (c .before .before .before .before .before .args .word) z) }
+returns-2 c =
+    let e = sym (c .before .before .reading2 .given .1) ∙ c .before .before .before .before .read-at-once .ensures in
+    record { number = ap numberOf e; fields = ap told e }
 
 pub aps2-read-spec : {M : Type 1} → statement M
 aps2-read-spec =
     tie.close
-    (tie.spec refusal-of-requires returns instruction-in-requires fields-of-requires returns-2)
+    (tie.spec
+    read-at-once-requires
+    enum-known-reading
+    fields-of-requires
+    enum-known-reading-2
+    returns
+    returns-2)
