@@ -5,7 +5,7 @@ use mathlib.Core.Path.{_≡_, refl, sym, ap, subst, _∙_}
 use mathlib.Core.Logic.{_⊎_, inl, inr, ⊎-elim}
 use mathlib.Core.Bool.{Bool, true, false, not}
 use mathlib.Core.List.{List}
-use native.Mathlib.Decide.{ℕ-discrete, decLt}
+use native.Mathlib.Decide.{decLt}
 use native.Mathlib.Omega.{arith}
 use lib.Arith.{bin-ind}
 use lib.Pow.{shr-shr}
@@ -20,10 +20,10 @@ use Rattle.flow.specs.Move.{moveAt}
 use Rattle.flow.specs.Walk.{deepest, On, place, Reached, Fault, past, full, empty}
 use Rattle.flow.proofs.Rules.{Leaps, goto-to, call-to, repeat-to, Walked, begin, on, over, back, walked, reached}
 use Rattle.flow.proofs.Bits.{two, zero-off, next-on, back-on, on-next}
-use Rattle.walk.specs.Marks.{Exact, Returns}
+use Rattle.walk.specs.Marks.{faultIn, FirstFault, Exact, Returns}
 use Rattle.walk.proofs.Laws.{depth, backs-of, came-reached}
 use Rattle.instruction.specs.Bits.{_gives_else_}
-use Rattle.verdict.specs.Flow.{Targets, faultIn}
+use Rattle.verdict.specs.Flow.{Targets}
 
 -- ---- a number that is not 0 has a bit
 
@@ -128,6 +128,9 @@ module _ (lim : ℕ) (ws ms : List ℕ) (ex : Exact lim ws ms) where
       go Leave e h = ret e (eqb (m % 4) 0) refl h
       go (Loop t) e h = absurd (h refl)
 
+pub before-first : (lim : ℕ) (ws ms : List ℕ) {f : ℕ} → Exact lim ws ms → FirstFault lim ws ms (length ws) f → (j b : ℕ) → b < length ws → b < f → Fault lim ws j b → ⊥
+before-first lim ws ms ex g j b l h x = no-fault lim ws ms ex j b x l (g .none b l h)
+
 -- ---- past the end
 
 pub jump-to : {lim : ℕ} {o : Move} {d : ℕ} {c : Bool} {t e : ℕ} {h : Bool} → Leaps lim o d c t e h → toOf o ≡ t
@@ -175,11 +178,3 @@ lowest lim ws a none j b f = go (decLt b a)
     go : Dec (b < a) → a ≤ b
     go (yes l) = absurd (none j b l f)
     go (no h) = omega arith
-
-pub none-more : (lim : ℕ) (ws ms : List ℕ) (ex : Exact lim ws ms) (a : ℕ) → a < length ws → ((j b : ℕ) → b < a → Fault lim ws j b → ⊥)
-    → faultIn lim (moveAt ws a) (getD ms a 0) ≡ 0 → (j b : ℕ) → b < a + 1 → Fault lim ws j b → ⊥
-none-more lim ws ms ex a l none e j b h f = go (ℕ-discrete b a)
-  where
-    go : Dec (b ≡ a) → ⊥
-    go (yes q) = no-fault lim ws ms ex j a (subst (λ (y : ℕ). Fault lim ws j y) q f) l e
-    go (no q) = none j b (omega arith) f

@@ -4,12 +4,10 @@ ghost use mathlib.Core.Path.{_≡_};
 ghost use Prim.Native.Nat.{_≤_};
 ghost use Prim.Native.Nat.{_<_, _+_, _-_};
 ghost use lib.ListN.{length, drop};
-ghost use Rattle.flow.specs.Walk.{deepest};
 ghost use Rattle.sequence.specs.Bounds.{groupSize};
-ghost use Rattle.verdict.specs.Flow.{faultIn, FlowIs, CanJudge};
+ghost use Rattle.verdict.specs.Flow.{FlowIs, CanJudge};
 ghost use Rattle.verdict.specs.Words.{isEngineWord, isHigh, closes, leftOpen, standsRefused, wordRefusal};
 ghost use Rattle.verdict.specs.Check.{inputRefused, WordsAre, CheckIs};
-use flow::Mark;
 use flow::Move;
 use flow::Moves;
 use instruction::Instruction;
@@ -17,6 +15,8 @@ use instruction::Refusal;
 use reader::instruction_in;
 use reader::refusal_of;
 use sequence::Sequence;
+use walk::Seen;
+use walk::fault_of;
 
 // A refusal and its place; number 0 at place 0 is accepted.
 pub struct Verdict {
@@ -24,49 +24,23 @@ pub struct Verdict {
     pub place: usize,
 }
 
-// 31, 32 or 0, of a word and its mark.
-fn fault_of(o: Move, m: u64, limit: u64) -> u64
-    requires { ⌜ limit ≤ deepest ⌝ }
-    ensures { λ r. ⌜ r ≡ faultIn limit o m ⌝ }
-{
-    let deepest = m / Mark::at(limit) % 4;
-    match o {
-        Move::Other => 0,
-        Move::Compare => 0,
-        Move::Jump(_) => 0,
-        Move::Enter(_) => if deepest == 0 {
-            0
-        } else {
-            Sequence::STACK_FULL
-        },
-        Move::Leave => if m % 4 == 0 { 0 } else { Sequence::STACK_EMPTY },
-        Move::Loop(_) => 0,
-    }
-}
-
-// The verdict, of marks that are exact.
-pub fn judge(words: &[u64], marks: &[u64], limit: u64) -> Verdict
-    requires { ⌜ CanJudge limit (now words) (now marks) ⌝ }
+// The verdict, of marks that are exact and of what the walk has seen.
+pub fn judge(words: &[u64], marks: &[u64], seen: Seen, limit: u64) -> Verdict
+    requires { ⌜ CanJudge limit (now words) (now marks) (seen .back) (seen .faulty) ⌝ }
     ensures { λ r. ⌜ FlowIs limit (now (words .entry)) (r .refusal .number) (r .place) ⌝ }
 {
     let n = words.len();
-    let mut back: u64 = 0;
-    let mut a: usize = 0;
-    while a < n {
-        let o = Move::at(words[a]);
-        let m = marks[a];
-        back = back | walk::back_of(o, m);
-        let k = fault_of(o, m, limit);
-        if k != 0 {
-            return Verdict {
-                refusal: Refusal { number: k },
-                place: a,
-            };
-        }
-        a += 1;
+    let a = seen.faulty;
+    if a < n {
+        return Verdict {
+            refusal: Refusal {
+                number: fault_of(Move::at(words[a]), marks[a], limit),
+            },
+            place: a,
+        };
     }
     let e = n - 1;
-    let f = Moves::of(Move::at(words[e]), marks[e], back, limit);
+    let f = Moves::of(Move::at(words[e]), marks[e], seen.back, limit);
     let x = f.next;
     if x != 0 {
         return Verdict {
@@ -212,6 +186,6 @@ pub fn check(words: &[u64], wave: u64, marks: &mut [u64]) -> Verdict
     if v.refusal.number != 0 {
         return v;
     }
-    walk::walk(words, marks, Sequence::STACK);
-    judge(words, marks, Sequence::STACK)
+    let seen = walk::walk(words, marks, Sequence::STACK);
+    judge(words, marks, seen, Sequence::STACK)
 }

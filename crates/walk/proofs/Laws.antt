@@ -3,7 +3,7 @@
 use Prim.Native.Nat.{ℕ, zero, suc, _+_, _-_, _*_, _^_, _≤_, _<_}
 use mathlib.Core.Path.{_≡_, refl, sym, ap, subst, _∙_}
 use mathlib.Core.Logic.{⊎-elim}
-use mathlib.Core.Bool.{Bool, true, false, _&&_}
+use mathlib.Core.Bool.{Bool, true, false, not, _&&_}
 use mathlib.Core.List.{List, [], _∷_}
 use native.Mathlib.Nat.{le-refl, le-trans, lt-of-le-of-lt, eq-or-lt-of-le, le-of-suc-le-suc}
 use native.Mathlib.Numerals.{add-one}
@@ -14,6 +14,7 @@ use borrow.Author.Tests.{eqb-true, eqb-false}
 use lib.ListN.{length, getD, set, length-set}
 use lib.Seq.{getD-set-same, getD-set-other}
 use lib.Bits.{bitOr, or-add-and, and-le-r}
+use Rattle.instruction.specs.Bits.{pick, _gives_else_}
 use Rattle.instruction.specs.declared.WordAddress.{WordAddress}
 use Rattle.flow.specs.declared.Move.{Move}
 use Rattle.flow.specs.declared.Move.the-variants.{Other, Compare, Jump, Enter, Leave, Loop}
@@ -23,7 +24,7 @@ use Rattle.flow.specs.Move.{moveAt}
 use Rattle.flow.specs.Walk.{deepest, On, place, Reached, start}
 use Rattle.flow.proofs.Rules.{Onward, plain-on, cmp-on, goto-on, call-on, return-on, repeat-on, Leaps, goto-to, call-to, repeat-to, Walked, begin, on, over, back, walked, reached}
 use Rattle.flow.proofs.Bits.{or-left, or-right, or-on, zero-off, high-off, on-bare, bare-on, next-on, back-on, jump-on, Came, stepped, returned, on-next, Leapt, leapt, on-jump}
-use Rattle.walk.specs.Marks.{Exact, Sound, Backs, left, rest, HoldsAt, Put, same, more, Grew, ClosedAt, Turned, moved, still, Tells, holds, fails, backIn, Returns, Cleared, Part, Ahead, Visits, VisitDone, TurnIs, onward, hint, ended, Room, NoteDone, FollowDone, Since, fresh, since, AtHand, OpenIs, closed, first, load}
+use Rattle.walk.specs.Marks.{faultIn, FirstFault, Settled, Exact, Sound, Backs, left, rest, HoldsAt, Put, same, more, Grew, ClosedAt, Turned, moved, still, Tells, holds, fails, backIn, Returns, Cleared, Part, Ahead, Visits, VisitDone, TurnIs, onward, hint, ended, Room, NoteDone, FollowDone, Since, fresh, since, AtHand, OpenIs, closed, first, load}
 use Rattle.walk.specs.declared.Trail.{Trail}
 use Rattle.sequence.specs.Bounds.{wordLimit}
 
@@ -130,31 +131,6 @@ back-in (Jump t) m d p = zero-off (2 * d) p
 back-in (Enter t) m d p = zero-off (2 * d) p
 back-in Leave m d p = (refl, bare-on d m p)
 back-in (Loop t) m d p = zero-off (2 * d) p
-
-pub returns-none : (ws ms : List ℕ) → Returns ws ms 0 0
-returns-none ws ms = record { from = λ d p. zero-off (2 * d) p; whole = λ a d c h l o p. absurd (omega arith) }
-
-pub returns-more : (ws ms : List ℕ) (i r : ℕ) → Returns ws ms i r → Returns ws ms (i + 1) (bitOr r (backIn (moveAt ws i) (getD ms i 0)))
-returns-more ws ms i r g = record { from = from; whole = whole }
-  where
-    x : ℕ
-    x = backIn (moveAt ws i) (getD ms i 0)
-
-    from : (d : ℕ) → On (2 * d) (bitOr r x) → (a : ℕ) × (c : Bool) × (a < i + 1) × (moveAt ws a ≡ Leave) × On (place d c) (getD ms a 0)
-    from d p =
-        ⊎-elim
-        (λ q. let w = g .from d q in let l : w .0 < i = w .2 in (w .0, w .1, omega arith, w .3, w .4))
-        (λ q. let w = back-in (moveAt ws i) (getD ms i 0) d q in (i, w .1 .0, omega arith, w .0, w .1 .1))
-        (or-on (2 * d) r x p)
-
-    whole : (a d : ℕ) (c : Bool) → d ≤ deepest → a < i + 1 → moveAt ws a ≡ Leave → On (place d c) (getD ms a 0) → On (2 * d) (bitOr r x)
-    whole a d c h l o p =
-        ⊎-elim
-        (λ e. or-right (2 * d) r x
-        (subst (λ (z : Move). On (2 * d) (backIn z (getD ms i 0))) (sym (subst (λ (z : ℕ). moveAt ws z ≡ Leave) e o))
-        (on-bare d (getD ms i 0) c h (subst (λ (z : ℕ). On (place d c) (getD ms z 0)) e p))))
-        (λ k. or-left (2 * d) r x (g .whole a d c h k o p))
-        (eq-or-lt-of-le (le-of-suc-le-suc (subst (λ (z : ℕ). a < z) (add-one i) l)))
 
 pub backs-of : (lim : ℕ) (ws ms : List ℕ) (r : ℕ) → Sound lim ws ms → Returns ws ms (length ws) r → Backs lim ws r
 backs-of lim ws ms r s g d p = let w = g .from d p in (w .0, w .1, w .2, w .3, s (w .0) d (w .1) (w .2) (w .4))
@@ -528,15 +504,84 @@ turn-fell {ms = ms} {s = s} {ns = ns} {v = v} d (hint {t = t} r b h m) l =
 turn-fell d (ended r b e) l = absurd (omega arith)
 
 -- following from an address that is open sets a bit
-pub open-moves : {lim : ℕ} {ws : List ℕ} {r : ℕ} {ms : List ℕ} {q : ℕ} {ns : List ℕ} {a : ℕ} → OpenIs lim ws r ms a → a < length ws → Turned lim ws r ms q ns a → rest ns q < rest ms r
-open-moves (closed k) l t = absurd (omega arith)
+pub open-moves : {lim : ℕ} {ws : List ℕ} {r : ℕ} {ms : List ℕ} {q : ℕ} {ns : List ℕ} {a f : ℕ} → OpenIs lim ws r ms a f → a < length ws → Turned lim ws r ms q ns a → rest ns q < rest ms r
+open-moves (closed k h) l t = absurd (omega arith)
 open-moves (first l o) h (moved m) = m
 open-moves (first l o) h (still k) = absurd (o k)
 
+-- the depths of RETURN that are known are those that are marked
+known-returns : (lim : ℕ) (ws : List ℕ) (r : ℕ) (ms : List ℕ) → Exact lim ws ms → Backs lim ws r → ((k : ℕ) → k < length ws → ClosedAt lim ws r ms k) → Returns ws ms (length ws) r
+known-returns lim ws r ms ex bs cl = record { from = from; whole = whole }
+  where
+    from : (d : ℕ) → On (2 * d) r → (a : ℕ) × (c : Bool) × (a < length ws) × (moveAt ws a ≡ Leave) × On (place d c) (getD ms a 0)
+    from d p = let w = bs d p in (w .0, w .1, w .2, w .3, ex .whole (w .0) d (w .1) (w .2) (w .4))
+
+    whole : (a d : ℕ) (c : Bool) → d ≤ deepest → a < length ws → moveAt ws a ≡ Leave → On (place d c) (getD ms a 0) → On (2 * d) r
+    whole a d c h l o p =
+        subst (λ (y : ℕ). On (2 * d) y) (cl a l .met)
+        (or-right (2 * d) r (backIn (moveAt ws a) (getD ms a 0))
+        (subst (λ (z : Move). On (2 * d) (backIn z (getD ms a 0))) (sym o) (on-bare d (getD ms a 0) c h p)))
+
 -- marks with no open address are the least set
-pub settled : (lim : ℕ) (ws : List ℕ) (r : ℕ) (ms : List ℕ) {a : ℕ} → lim ≤ deepest → Sound lim ws ms → On 0 (getD ms 0 0) → OpenIs lim ws r ms a → length ws ≤ a → Exact lim ws ms
-settled lim ws r ms t s b (closed k) l = exact lim ws r ms t b k s
-settled lim ws r ms t s b (first h o) l = absurd (omega arith)
+pub settled : (lim : ℕ) (ws : List ℕ) (r : ℕ) (ms₀ ms : List ℕ) {a f : ℕ} → lim ≤ deepest → Sound lim ws ms → On 0 (getD ms 0 0) → Backs lim ws r → length ms ≡ length ms₀ → ((k : ℕ) → length ws ≤ k → getD ms k 0 ≡ getD ms₀ k 0)
+    → OpenIs lim ws r ms a f → length ws ≤ a → Settled lim ws ms₀ ms r f
+settled lim ws r ms₀ ms t s b bs long tail (closed k h) l =
+    let ex = exact lim ws r ms t b k s in
+    record { marked = record { long = long; exact = ex; tail = tail }; returns = known-returns lim ws r ms ex bs k; fault = h }
+settled lim ws r ms₀ ms t s b bs long tail (first h o) l = absurd (omega arith)
+
+-- ---- the first fault
+
+-- a number that is given by a test is one
+pub given-31 : (t : Bool) → t ≡ not (eqb (t gives 31 else 0) 0)
+given-31 true = refl
+given-31 false = refl
+
+pub given-32 : (t : Bool) → t ≡ not (eqb (t gives 32 else 0) 0)
+given-32 true = refl
+given-32 false = refl
+
+pub fault-none : (lim : ℕ) (ws ms : List ℕ) → FirstFault lim ws ms 0 (length ws)
+fault-none lim ws ms = record { low = le-refl _; none = λ b l h. absurd (omega arith); here = λ l. absurd (omega arith) }
+
+pub fault-more : (lim : ℕ) (ws ms : List ℕ) (a f : ℕ) (t : Bool) → FirstFault lim ws ms a f → a < length ws → t ≡ not (eqb (faultIn lim (moveAt ws a) (getD ms a 0)) 0) → FirstFault lim ws ms (a + 1) (pick (t && eqb f (length ws)) a f)
+fault-more lim ws ms a f t g l e = go t e (eqb f (length ws)) refl
+  where
+    x : ℕ
+    x = faultIn lim (moveAt ws a) (getD ms a 0)
+
+    is : (b : Bool) → eqb x 0 ≡ b → false ≡ not b → x ≡ 0
+    is true q h = eqb-true x 0 q
+    is false q h = let z : _≡_ {A = ℕ} 0 1 = cc in absurd (omega arith)
+
+    isnt : (b : Bool) → eqb x 0 ≡ b → true ≡ not b → x ≡ 0 → ⊥
+    isnt true q h = let z : _≡_ {A = ℕ} 0 1 = cc in absurd (omega arith)
+    isnt false q h = eqb-false x 0 q
+
+    kept : (f < length ws) → (f < a + 1) × (faultIn lim (moveAt ws f) (getD ms f 0) ≡ 0 → ⊥)
+    kept h = let w = g .here h in let k : f < a = w .0 in (omega arith, w .1)
+
+    below : (b : ℕ) → (b ≡ a → ⊥) → b < a + 1 → b < f → faultIn lim (moveAt ws b) (getD ms b 0) ≡ 0
+    below b n h k = g .none b (omega arith) k
+
+    go : (t : Bool) → t ≡ not (eqb x 0) → (c : Bool) → eqb f (length ws) ≡ c → FirstFault lim ws ms (a + 1) (pick (t && c) a f)
+    go true q true c =
+        let z = eqb-true f (length ws) c in
+        record { low = omega arith; none = λ b h k. g .none b k (omega arith); here = λ h. (omega arith, isnt (eqb x 0) refl q) }
+    go true q false c =
+        let z = eqb-false f (length ws) c in
+        let low = g .low in
+        let w : f < length ws = omega arith in
+        let v : f < a = g .here w .0 in
+        record { low = low; none = λ b h k. g .none b (omega arith) k; here = kept }
+    go false q c d = record { low = g .low; none = none; here = kept }
+      where
+        none : (b : ℕ) → b < a + 1 → b < f → faultIn lim (moveAt ws b) (getD ms b 0) ≡ 0
+        none b h k = by (ℕ-discrete b a)
+          where
+            by : Dec (b ≡ a) → faultIn lim (moveAt ws b) (getD ms b 0) ≡ 0
+            by (yes r) = ap (λ (n : ℕ). faultIn lim (moveAt ws n) (getD ms n 0)) r ∙ is (eqb x 0) refl q
+            by (no n) = below b n h k
 
 -- ---- the start
 

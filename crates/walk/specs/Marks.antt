@@ -1,11 +1,13 @@
 -- What the marks say, and what the functions that work on them promise.
 -- A reader of the check believes `Exact` alone; the rest carries the loops.
-use Prim.Native.Nat.{ℕ, _+_, _-_, _*_, _^_, _≤_, _<_}
+use Prim.Native.Nat.{ℕ, _+_, _-_, _*_, _/_, _%_, _^_, _≤_, _<_}
 use mathlib.Core.Path.{_≡_}
-use mathlib.Core.Bool.{Bool, true, false}
+use mathlib.Core.Bool.{Bool, true, false, not}
 use mathlib.Core.List.{List, [], _∷_}
 use lib.ListN.{length, getD, set}
 use lib.Bits.{bitOr}
+use lib.Dec.{eqb}
+use Rattle.instruction.specs.Bits.{_gives_else_}
 use Rattle.sequence.specs.Bounds.{wordLimit}
 use Rattle.flow.specs.declared.Move.{Move}
 use Rattle.flow.specs.declared.Move.the-variants.{Other, Compare, Jump, Enter, Leave, Loop}
@@ -165,10 +167,25 @@ pub data Since (lim : ℕ) (ws ms : List ℕ) (s : Trail) : List ℕ → Trail �
   fresh : Since lim ws ms s ms s
   since : {ns : List ℕ} {t : Trail} → FollowDone lim ws ms s ns t → Since lim ws ms s ns t
 
--- the first address that is not closed, or the words' end
-pub data OpenIs (lim : ℕ) (ws : List ℕ) (r : ℕ) (ms : List ℕ) : ℕ → Type 0 where
-  closed : ((k : ℕ) → k < length ws → ClosedAt lim ws r ms k) → OpenIs lim ws r ms (length ws)
-  first : {a : ℕ} → a < length ws → (ClosedAt lim ws r ms a → ⊥) → OpenIs lim ws r ms a
+-- 31 or 32 where the mark of a word has the depth at which it faults, else 0
+abbrev pub faultIn : ℕ → Move → ℕ → ℕ
+faultIn lim Other m = 0
+faultIn lim Compare m = 0
+faultIn lim (Jump t) m = 0
+faultIn lim (Enter t) m = not (eqb (m / 2 ^ (2 * lim) % 4) 0) gives 31 else 0
+faultIn lim Leave m = not (eqb (m % 4) 0) gives 32 else 0
+faultIn lim (Loop t) m = 0
+
+-- the first address below k at which a mark has a fault, or the words' end
+pub record FirstFault (lim : ℕ) (ws ms : List ℕ) (k f : ℕ) : Type 0 where
+  pub low : f ≤ length ws
+  pub none : (b : ℕ) → b < k → b < f → faultIn lim (moveAt ws b) (getD ms b 0) ≡ 0
+  pub here : f < length ws → (f < k) × (faultIn lim (moveAt ws f) (getD ms f 0) ≡ 0 → ⊥)
+
+-- the first address that is not closed; or the words' end, with the first fault
+pub data OpenIs (lim : ℕ) (ws : List ℕ) (r : ℕ) (ms : List ℕ) : ℕ → ℕ → Type 0 where
+  closed : {f : ℕ} → ((k : ℕ) → k < length ws → ClosedAt lim ws r ms k) → FirstFault lim ws ms (length ws) f → OpenIs lim ws r ms (length ws) f
+  first : {a f : ℕ} → a < length ws → (ClosedAt lim ws r ms a → ⊥) → OpenIs lim ws r ms a f
 
 -- marks to start from: sound, and the start among them
 pub record CanSettle (lim : ℕ) (ws ms : List ℕ) : Type 0 where
@@ -182,3 +199,9 @@ pub record Marked (lim : ℕ) (ws ms ns : List ℕ) : Type 0 where
   pub long : length ns ≡ length ms
   pub exact : Exact lim ws ns
   pub tail : (a : ℕ) → length ws ≤ a → getD ns a 0 ≡ getD ms a 0
+
+-- and what was seen on the way
+pub record Settled (lim : ℕ) (ws ms ns : List ℕ) (r f : ℕ) : Type 0 where
+  pub marked : Marked lim ws ms ns
+  pub returns : Returns ws ns (length ws) r
+  pub fault : FirstFault lim ws ns (length ws) f

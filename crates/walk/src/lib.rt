@@ -2,9 +2,15 @@
 // Hints say which addresses are worth a visit and carry no promise: a last look at every address proves that nothing is missing.
 ghost use mathlib.Core.Path.{_≡_};
 ghost use Prim.Native.Nat.{_+_, _≤_, _<_};
+ghost use mathlib.Core.Bool.{not, _&&_};
+ghost use lib.Dec.{eqb};
 ghost use lib.ListN.{length};
+ghost use Rattle.instruction.specs.Bits.{pick};
+ghost use Rattle.instruction.specs.Word.{spelledBy};
+ghost use Rattle.flow.specs.Move.{moveOf};
+ghost use Rattle.flow.specs.Walk.{deepest};
 ghost use Rattle.sequence.specs.Bounds.{wordLimit};
-ghost use Rattle.walk.specs.Marks.{backIn, Cleared, Fits, Room, NoteDone, Put, LeapDone, CanVisit, VisitDone, TurnIs, FollowDone, Tells, HoldsAt, ClosedAt, OpenIs, CanSettle, Marked};
+ghost use Rattle.walk.specs.Marks.{faultIn, Cleared, Fits, Room, NoteDone, Put, LeapDone, CanVisit, VisitDone, TurnIs, FollowDone, Tells, HoldsAt, ClosedAt, OpenIs, CanSettle, Settled};
 use flow::Mark;
 use flow::Move;
 use flow::Moves;
@@ -25,6 +31,18 @@ impl Trail {
     pub const HINTED: u8 = 1;
 
     pub const LISTED: u8 = 2;
+}
+
+// What a look finds.
+pub struct Look {
+    pub open: usize,
+    pub faulty: usize,
+}
+
+// What the walk has seen: the depths at which a RETURN is marked, and the first address that faults, or n.
+pub struct Seen {
+    pub back: u64,
+    pub faulty: usize,
 }
 
 // A hint that an address is worth a visit. It may be dropped.
@@ -428,39 +446,74 @@ fn is_closed(words: &[u64], marks: &[u64], a: usize, back: u64, limit: u64) -> b
     }
 }
 
-// The first address that leads to what is not marked, or n.
-fn first_open(words: &[u64], marks: &[u64], back: u64, limit: u64) -> usize
-    requires { ⌜ Fits (now words) (now marks) 0 limit ⌝ }
-    ensures { λ r. ⌜ OpenIs limit (now (words .entry)) back (now (marks .entry)) r ⌝ }
+// 31, 32 or 0, of a word and its mark.
+pub fn fault_of(o: Move, m: u64, limit: u64) -> u64
+    requires { ⌜ limit ≤ deepest ⌝ }
+    ensures { λ r. ⌜ r ≡ faultIn limit o m ⌝ }
 {
-    let mut a: usize = 0;
-    while a < words.len() {
-        if !is_closed(words, marks, a, back, limit) {
-            return a;
-        }
-        a += 1;
-    }
-    a
-}
-
-// The depths of a mark, where the word is a RETURN.
-pub fn back_of(o: Move, m: u64) -> u64
-    ensures { λ r. ⌜ r ≡ backIn o m ⌝ }
-{
+    let deepest = m / Mark::at(limit) % 4;
     match o {
         Move::Other => 0,
         Move::Compare => 0,
         Move::Jump(_) => 0,
-        Move::Enter(_) => 0,
-        Move::Leave => Mark::bare(m),
+        Move::Enter(_) => if deepest == 0 {
+            0
+        } else {
+            Sequence::STACK_FULL
+        },
+        Move::Leave => if m % 4 == 0 { 0 } else { Sequence::STACK_EMPTY },
         Move::Loop(_) => 0,
     }
 }
 
+// Whether a word faults at its mark.
+fn faults(word: u64, m: u64, limit: u64) -> bool
+    requires { ⌜ limit ≤ deepest ⌝ }
+    ensures { λ r. ⌜ r ≡ not (eqb (faultIn limit (moveOf (spelledBy word .body)) m) 0) ⌝ }
+{
+    if Move::goes_on(word) {
+        return false;
+    }
+    let o = Move::at(word);
+    match o {
+        Move::Other => false,
+        Move::Compare => false,
+        Move::Jump(_) => false,
+        Move::Enter(_) => m / Mark::at(limit) % 4 != 0,
+        Move::Leave => m % 4 != 0,
+        Move::Loop(_) => false,
+    }
+}
+
+// Of two addresses the one that faults first, where one below n is known or not.
+fn first_fault(n: usize, faulty: usize, a: usize, faults: bool) -> usize
+    ensures { λ r. ⌜ r ≡ pick (faults && eqb faulty n) a faulty ⌝ }
+{
+    if faults & (faulty == n) { a } else { faulty }
+}
+
+// A look at every address: the first that leads to what is not marked, or n; and below it the first that faults, or n.
+fn look_over(words: &[u64], marks: &[u64], back: u64, limit: u64) -> Look
+    requires { ⌜ Fits (now words) (now marks) 0 limit ⌝ }
+    ensures { λ r. ⌜ OpenIs limit (now (words .entry)) back (now (marks .entry)) (r .open) (r .faulty) ⌝ }
+{
+    let n = words.len();
+    let mut a: usize = 0;
+    let mut faulty: usize = n;
+    while a < n {
+        if !is_closed(words, marks, a, back, limit) {
+            return Look { open: a, faulty };
+        }
+        faulty = first_fault(n, faulty, a, faults(words[a], marks[a], limit));
+        a += 1;
+    }
+    Look { open: a, faulty }
+}
+
 // From marks that are sound and hold the start to the least set.
-fn settle(words: &[u64], marks: &mut [u64], limit: u64)
+fn settle(words: &[u64], marks: &mut [u64], limit: u64) -> Seen
     requires { ⌜ CanSettle limit (now words) (now marks) ⌝ }
-    ensures { λ _. ⌜ Marked limit (now (words .entry)) (now (marks .entry)) (now (marks .exit)) ⌝ }
+    ensures { λ r. ⌜ Settled limit (now (words .entry)) (now (marks .entry)) (now (marks .exit)) (r .back) (r .faulty) ⌝ }
 {
     let mut stack = [0u16; Sequence::WORDS as usize];
     let mut known = [0u8; Sequence::WORDS as usize];
@@ -473,9 +526,13 @@ fn settle(words: &[u64], marks: &mut [u64], limit: u64)
         mark: 0,
     };
     loop {
-        let a = first_open(words, marks, s.back, limit);
+        let l = look_over(words, marks, s.back, limit);
+        let a = l.open;
         if words.len() <= a {
-            return;
+            return Seen {
+                back: s.back,
+                faulty: l.faulty,
+            };
         }
         let mark = marks[a];
         let from = Trail {
@@ -510,11 +567,11 @@ fn clear(marks: &mut [u64], n: usize)
 }
 
 // The marks of the walk.
-pub fn walk(words: &[u64], marks: &mut [u64], limit: u64)
+pub fn walk(words: &[u64], marks: &mut [u64], limit: u64) -> Seen
     requires { ⌜ Fits (now words) (now marks) 0 limit × (0 < length (now words)) ⌝ }
-    ensures { λ _. ⌜ Marked limit (now (words .entry)) (now (marks .entry)) (now (marks .exit)) ⌝ }
+    ensures { λ r. ⌜ Settled limit (now (words .entry)) (now (marks .entry)) (now (marks .exit)) (r .back) (r .faulty) ⌝ }
 {
     clear(marks, words.len());
     marks[0] = 1;
-    settle(words, marks, limit);
+    settle(words, marks, limit)
 }

@@ -43,7 +43,9 @@ judge-requires c κs =
       fits = record { marks = omega arith; room = omega arith; limit = omega arith };
       some = g .0;
       targets = targets (s .wave) (s .words .now) (g .0) (all-pass (s .wave) (s .words .now) (c .before .before .before .before .before .before .before .judge-words .ensures) (c .before .before .before .before .before .if2 .left));
-      exact = c .before .before .before .walk .ensures .exact;
+      exact = c .before .before .before .walk .ensures .marked .exact;
+      returns = c .before .before .before .walk .ensures .returns;
+      fault = c .before .before .before .walk .ensures .fault;
     }
 
 same-length : tie.Need-same-length
@@ -52,7 +54,7 @@ same-length c = search needs
 returns-3 : tie.Need-returns-3
 returns-3 c =
     let s = c .before .before .before .before .before .before .before .before .before .before .before .before .before .args in
-    flow (sym (c .before .before .before .before .before .before .before .before .before .before .input-refused .ensures) ∙ c .before .before .before .before .before .before .before .before .before .if1 .left) (all-pass (s .wave) (s .words .now) (c .before .before .before .before .before .before .before .before .judge-words .ensures) (c .before .before .before .before .before .before .if2 .left)) (c .before .before .before .before .walk .ensures) (c .judge .ensures)
+    flow (sym (c .before .before .before .before .before .before .before .before .before .before .input-refused .ensures) ∙ c .before .before .before .before .before .before .before .before .before .if1 .left) (all-pass (s .wave) (s .words .now) (c .before .before .before .before .before .before .before .before .judge-words .ensures) (c .before .before .before .before .before .before .if2 .left)) (c .before .before .before .before .walk .ensures .marked) (c .judge .ensures)
 
 pub check-spec : {M : Type 1} → statement M
 check-spec =

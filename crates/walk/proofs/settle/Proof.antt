@@ -19,8 +19,8 @@ abbrev μ-loop : tie.MeasureT-loop
 loop-holds : tie.Need-loop-holds Inv-loop μ-loop
 loop-holds c = let p = c .before .before .pre in (p .fits .marks, refl, p .sound, p .start, λ a l. refl, λ d q. zero-off (2 * d) q, record { hints = omega arith; calls = omega arith })
 
-first-open-requires : tie.Need-first-open-requires Inv-loop μ-loop
-first-open-requires c κs = record { marks = c .before .loop .inv .0; room = omega arith; limit = c .before .before .before .before .pre .fits .limit }
+look-over-requires : tie.Need-look-over-requires Inv-loop μ-loop
+look-over-requires c κs = record { marks = c .before .loop .inv .0; room = omega arith; limit = c .before .before .before .before .pre .fits .limit }
 
 same-length : tie.Need-same-length Inv-loop μ-loop
 same-length c = c .before .before .before .loop .inv .1
@@ -29,7 +29,7 @@ returns : tie.Need-returns Inv-loop μ-loop
 returns c =
     let l = c .before .before .before .loop in
     let s = c .before .before .before .before .before .before .args in
-    record { long = l .inv .1; exact = settled (s .limit) (s .words .now) (l .s .back) (l .marks) (c .before .before .before .before .before .before .pre .fits .limit) (l .inv .2) (l .inv .3) (c .before .first-open .ensures) (c .if1 .taken); tail = l .inv .4 }
+    settled (s .limit) (s .words .now) (l .s .back) (s .marks .now) (l .marks) (c .before .before .before .before .before .before .pre .fits .limit) (l .inv .2) (l .inv .3) (l .inv .5) (l .inv .1) (l .inv .4) (c .before .look-over .ensures) (c .if1 .taken)
 
 mul-mark : tie.Need-mul-mark Inv-loop μ-loop
 mul-mark c = omega arith
@@ -43,7 +43,7 @@ follow-requires c κs =
     record { marks = i .0; room = record { hints = i .6 .hints; calls = i .6 .calls }; limit = c .before .before .before .before .before .before .before .before .before .before .before .pre .fits .limit; hand = record { below = c .before .before .before .before .before .if1 .left; part = λ k p. p } }
 
 loop-less : tie.Need-loop-less Inv-loop μ-loop
-loop-less c = open-moves (c .before .before .before .before .before .before .before .before .before .first-open .ensures) (c .before .before .before .before .before .before .before .before .if1 .left) (c .before .before .follow .ensures .turned refl)
+loop-less c = open-moves (c .before .before .before .before .before .before .before .before .before .look-over .ensures) (c .before .before .before .before .before .before .before .before .if1 .left) (c .before .before .follow .ensures .turned refl)
 
 loop-again : tie.Need-loop-again Inv-loop μ-loop
 loop-again c =
@@ -68,7 +68,7 @@ settle-spec =
     Inv-loop
     μ-loop
     loop-holds
-    first-open-requires
+    look-over-requires
     same-length
     returns
     mul-mark

@@ -39,7 +39,12 @@ returns c =
     let k = c .before .before .before .before .before .before .clear in
     let e = c .before .before .settle .ensures in
     let p = c .before .before .before .before .before .before .before .before .before .before .pre in
-    record { long = e .long ∙ length-set (k .last .0) 0 1 ∙ k .kept .0; exact = e .exact; tail = λ a l. e .tail a l ∙ getD-set-other (k .last .0) 0 a 1 0 (λ q. omega arith) ∙ k .ensures .tail a l }
+    let k′ = e .marked in
+    record {
+      marked = record { long = k′ .long ∙ length-set (k .last .0) 0 1 ∙ k .kept .0; exact = k′ .exact; tail = λ a l. k′ .tail a l ∙ getD-set-other (k .last .0) 0 a 1 0 (λ q. omega arith) ∙ k .ensures .tail a l };
+      returns = e .returns;
+      fault = e .fault;
+    }
 
 pub walk-spec : {M : Type 1} → statement M
 walk-spec =
