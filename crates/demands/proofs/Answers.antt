@@ -2,7 +2,7 @@
 -- Assumes nothing.
 use mathlib.Core.Path.{sym, _∙_}
 use Rattle.verdict.proofs.Unique as unique
-use Rattle.demands.specs.Answers.{OneEqual, OneRead, OneWrite, OneRun, OneCheck, OneList, OneStep, OneDispatch, OneWalk, OneJudge}
+use Rattle.demands.specs.Answers.{OneEqual, OneRead, OneWrite, OneRun, OneCheck, OneList, OneStep, OneDispatch, OneWalk, OneSeen, OneJudge}
 
 pub one-answer-equation : OneEqual
 one-answer-equation A d r r′ p q = p ∙ sym q
@@ -46,6 +46,12 @@ one-answer-dispatch out k trace waits totals r r′ p q =
 
 pub one-answer-walk : OneWalk
 one-answer-walk limit words marks r r′ p q = unique.one-marks limit words marks r r′ (p .long ∙ sym (q .long)) (p .exact) (q .exact) (p .tail) (q .tail)
+
+pub one-answer-seen : OneSeen
+one-answer-seen limit words marks after l r r′ p q =
+    let b = unique.one-back limit words after (p .marked .exact) l (p .returns) (p .depths) (q .returns) (q .depths) in
+    let f = unique.one-fault limit words after (p .fault) (q .fault) in
+    λ i. (b i, f i)
 
 pub one-answer-judge : OneJudge
 one-answer-judge limit words r r′ p q =

@@ -2,7 +2,7 @@
 -- Each statement is about the contract as the function's source has it; C's four are in aps2_c.
 use mathlib.Core.Path.{_≡_}
 use mathlib.Core.List.{List}
-use Prim.Native.Nat.{ℕ}
+use Prim.Native.Nat.{ℕ, _≤_}
 use Rattle.instruction.specs.declared.Instruction.{Instruction}
 use Rattle.reader.specs.Reading.{readingOf}
 use Rattle.reader.specs.declared.Reading.{Reading}
@@ -15,7 +15,8 @@ use Rattle.machine.specs.declared.State.{State}
 use Rattle.machine.specs.declared.Stepped.{Stepped}
 use Rattle.rehearsal.specs.Run.{rehearse, Rehearsed}
 use Rattle.rehearsal.specs.declared.Answer.{Answer}
-use Rattle.walk.specs.Marks.{Marked}
+use Rattle.walk.specs.Marks.{Marked, Settled}
+use Rattle.flow.specs.Walk.{deepest}
 use Rattle.verdict.specs.Flow.{FlowIs}
 use Rattle.verdict.specs.Check.{CheckIs}
 use Rattle.verdict.specs.declared.Verdict.{Verdict}
@@ -60,6 +61,10 @@ OneDispatch = (out : List ℕ) (k : ℕ) (trace waits totals : List ℕ) → One
 -- the walk's marks
 abbrev pub OneWalk : Type 0
 OneWalk = (limit : ℕ) (words marks : List ℕ) → One (List ℕ) (λ r. Marked limit words marks r)
+
+-- what the walk has seen, up to the depths that a mark has bits for
+abbrev pub OneSeen : Type 0
+OneSeen = (limit : ℕ) (words marks after : List ℕ) → limit ≤ deepest → One (ℕ × ℕ) (λ r. Settled limit words marks after (r .0) (r .1))
 
 -- the verdict on flow
 abbrev pub OneJudge : Type 0

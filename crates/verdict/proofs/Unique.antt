@@ -3,6 +3,7 @@
 use Prim.Native.Nat.{ℕ, _+_, _-_, _*_, _/_, _%_, _^_, _≤_, _<_}
 use mathlib.Core.Path.{_≡_, refl, sym, ap, ap₂, subst, _∙_}
 use mathlib.Core.Logic.{_⊎_, inl, inr, ⊎-elim}
+use mathlib.Core.Bool.{Bool, true, false}
 use mathlib.Core.List.{List}
 use native.Mathlib.Nat.{le-antisymm, div-add-mod'}
 use native.Mathlib.Decide.{decLt}
@@ -14,9 +15,11 @@ use lib.Seq.{ext-getD}
 use Rattle.flow.specs.declared.Move.{Move}
 use Rattle.flow.specs.declared.Move.the-variants.{Other, Compare, Jump, Enter, Leave, Loop}
 use Rattle.flow.specs.Move.{moveAt}
-use Rattle.flow.specs.Walk.{On, Fault, past, full, empty}
+use Rattle.flow.specs.Walk.{deepest, On, place, Fault, past, full, empty}
 use Rattle.flow.proofs.Bits.{two, zero-off}
-use Rattle.walk.specs.Marks.{Exact}
+use Rattle.walk.specs.Marks.{Exact, Returns, Depths, FirstFault}
+use Rattle.walk.proofs.Laws.{depth}
+use Rattle.flow.proofs.Rules.{walked}
 use Rattle.sequence.specs.Bounds.{stackDepth}
 use Rattle.verdict.specs.Words.{wordRefusal}
 use Rattle.instruction.specs.Form.{numbered}
@@ -134,3 +137,32 @@ one-answer-check wave words marks (flow _ all _ _) (word _ p h) = absurd (h (ap 
 one-answer-check wave words marks {ns = ns} {os = os} (flow _ _ m f) (flow _ _ k g) =
     let o = one-flow stackDepth words f g in
     (ap₂ (λ (x y : ℕ). verdict (numbered x) y) (o .0) (o .1), one-marks stackDepth words marks ns os (m .long ∙ sym (k .long)) (m .exact) (k .exact) (m .tail) (k .tail))
+
+-- ---- what the walk has seen
+
+module _ (lim : ℕ) (ws ms : List ℕ) where
+  back-bits : {r r′ : ℕ} → Exact lim ws ms → lim ≤ deepest → Returns ws ms (length ws) r → Depths r → Returns ws ms (length ws) r′ → (k : ℕ) → On k r → On k r′
+  back-bits {r} {r′} ex s p e q k o = go (w .1) (w .2)
+    where
+      w : (d : ℕ) × (c : Bool) × (k ≡ place d c)
+      w = place-of k
+
+      go : (c : Bool) → k ≡ place (w .0) c → On k r′
+      go true z = absurd (e (w .0) (subst (λ (i : ℕ). On i r) z o))
+      go false z =
+          let x = p .from (w .0) (subst (λ (i : ℕ). On i r) z o) in
+          let l : w .0 ≤ lim = depth (walked (ex .sound (x .0) (w .0) (x .1) (x .2) (x .4))) in
+          subst (λ (i : ℕ). On i r′) (sym z) (q .whole (x .0) (w .0) (x .1) (omega arith) (x .2) (x .3) (x .4))
+
+  pub one-back : {r r′ : ℕ} → Exact lim ws ms → lim ≤ deepest → Returns ws ms (length ws) r → Depths r → Returns ws ms (length ws) r′ → Depths r′ → r ≡ r′
+  one-back {r} {r′} ex s p e q f = same-bits r r′ (back-bits ex s p e q) (back-bits ex s q f p)
+
+  not-below : {f f′ : ℕ} → FirstFault lim ws ms (length ws) f → FirstFault lim ws ms (length ws) f′ → f′ ≤ f
+  not-below {f} {f′} p q = go (decLt f f′)
+    where
+      go : Dec (f < f′) → f′ ≤ f
+      go (yes l) = let h = q .low in let k : f < length ws = omega arith in absurd (p .here k .1 (q .none f k l))
+      go (no l) = omega arith
+
+  pub one-fault : {f f′ : ℕ} → FirstFault lim ws ms (length ws) f → FirstFault lim ws ms (length ws) f′ → f ≡ f′
+  one-fault p q = le-antisymm (not-below q p) (not-below p q)

@@ -23,8 +23,8 @@ use Rattle.flow.specs.Masks.{nextOf, jumpOf, toOf, Follows}
 use Rattle.flow.specs.Move.{moveAt}
 use Rattle.flow.specs.Walk.{deepest, On, place, Reached, start}
 use Rattle.flow.proofs.Rules.{Onward, plain-on, cmp-on, goto-on, call-on, return-on, repeat-on, Leaps, goto-to, call-to, repeat-to, Walked, begin, on, over, back, walked, reached}
-use Rattle.flow.proofs.Bits.{or-left, or-right, or-on, zero-off, high-off, on-bare, bare-on, next-on, back-on, jump-on, Came, stepped, returned, on-next, Leapt, leapt, on-jump}
-use Rattle.walk.specs.Marks.{faultIn, FirstFault, Settled, Exact, Sound, Backs, left, rest, HoldsAt, Put, same, more, Grew, ClosedAt, Turned, moved, still, Tells, holds, fails, backIn, Returns, Cleared, Part, Ahead, Visits, VisitDone, TurnIs, onward, hint, ended, Room, NoteDone, FollowDone, Since, fresh, since, AtHand, OpenIs, closed, first, load}
+use Rattle.flow.proofs.Bits.{or-left, or-right, or-on, zero-off, high-off, on-bare, bare-on, bare-odd, next-on, back-on, jump-on, Came, stepped, returned, on-next, Leapt, leapt, on-jump}
+use Rattle.walk.specs.Marks.{Depths, faultIn, FirstFault, Settled, Exact, Sound, Backs, left, rest, HoldsAt, Put, same, more, Grew, ClosedAt, Turned, moved, still, Tells, holds, fails, backIn, Returns, Cleared, Part, Ahead, Visits, VisitDone, TurnIs, onward, hint, ended, Room, NoteDone, FollowDone, Since, fresh, since, AtHand, OpenIs, closed, first, load}
 use Rattle.walk.specs.declared.Trail.{Trail}
 use Rattle.sequence.specs.Bounds.{wordLimit}
 
@@ -71,7 +71,7 @@ sound-set lim ws ms i x l s new a d c h p = go (ℕ-discrete a i)
 -- ---- growth
 
 pub grew-refl : (lim : ℕ) (ws : List ℕ) (r : ℕ) (ms : List ℕ) → Grew lim ws r ms r ms
-grew-refl lim ws r ms = record { long = refl; less = le-refl (rest ms r); kept = λ a k p. p; tail = λ a h. refl; sound = λ b s. s; backs = λ b s. b }
+grew-refl lim ws r ms = record { long = refl; less = le-refl (rest ms r); kept = λ a k p. p; tail = λ a h. refl; sound = λ b s. s; backs = λ b s. b; depths = λ e. e }
 
 pub grew-trans : {lim : ℕ} {ws : List ℕ} {r : ℕ} {ms : List ℕ} {q : ℕ} {ns : List ℕ} {p : ℕ} {os : List ℕ} → Grew lim ws r ms q ns → Grew lim ws q ns p os → Grew lim ws r ms p os
 grew-trans g h =
@@ -82,6 +82,7 @@ grew-trans g h =
       tail = λ a l. h .tail a l ∙ g .tail a l;
       sound = λ b s. h .sound (g .backs b s) (g .sound b s);
       backs = λ b s. h .backs (g .backs b s) (g .sound b s);
+      depths = λ e. h .depths (g .depths e);
     }
 
 grew-put : (lim : ℕ) (ws : List ℕ) (r : ℕ) (ms : List ℕ) (i x : ℕ) {ns : List ℕ} {v : ℕ} → Put (length ws) ms i x ns v → length ws ≤ length ms
@@ -97,6 +98,7 @@ grew-put lim ws r ms i x (more h u f) l new =
       tail = λ a q. getD-set-other ms i a (bitOr (getD ms i 0) x) 0 (λ e. omega arith);
       sound = λ b s. sound-set lim ws ms i x (omega arith) s (new b s);
       backs = λ b s. b;
+      depths = λ e. e;
     }
 
 -- a bit that was set lowers what is left
@@ -156,6 +158,17 @@ backs-more lim ws r ms a m l sub b s d p =
     (λ q. let w = back-in (moveAt ws a) m d q in (a, w .1 .0, l, w .0, s a d (w .1 .0) l (sub (place d (w .1 .0)) (w .1 .1))))
     (or-on (2 * d) r (backIn (moveAt ws a) m) p)
 
+back-odd : (o : Move) (m d : ℕ) → On (2 * d + 1) (backIn o m) → ⊥
+back-odd Other m d p = zero-off (2 * d + 1) p
+back-odd Compare m d p = zero-off (2 * d + 1) p
+back-odd (Jump t) m d p = zero-off (2 * d + 1) p
+back-odd (Enter t) m d p = zero-off (2 * d + 1) p
+back-odd Leave m d p = bare-odd d m p
+back-odd (Loop t) m d p = zero-off (2 * d + 1) p
+
+depths-more : (o : Move) (m r : ℕ) → Depths r → Depths (bitOr r (backIn o m))
+depths-more o m r e d p = ⊎-elim (λ q. e d q) (λ q. back-odd o m d q) (or-on (2 * d + 1) r (backIn o m) p)
+
 pub or-up : (r x : ℕ) → r ≤ bitOr r x
 or-up r x = omega (arith, or-add-and r x, and-le-r r x)
 
@@ -176,7 +189,7 @@ module _ (lim : ℕ) (ws : List ℕ) (r : ℕ) (ms : List ℕ) (a m : ℕ) (fit 
   noted : Grew lim ws r ms met ms
   noted =
       let e : r ≤ met = or-up r (backIn (moveAt ws a) m) in
-      record { long = refl; less = omega arith; kept = λ b k p. p; tail = λ b h. refl; sound = λ b s. s; backs = λ b s. backs-more lim ws r ms a m l sub b s }
+      record { long = refl; less = omega arith; kept = λ b k p. p; tail = λ b h. refl; sound = λ b s. s; backs = λ b s. backs-more lim ws r ms a m l sub b s; depths = λ e. depths-more (moveAt ws a) m r e }
 
   onto-next : {ns : List ℕ} {v : ℕ} → Put (length ws) ms (a + 1) (nextOf (moveAt ws a) m met) ns v → Grew lim ws met ms met ns
   onto-next p =
@@ -523,12 +536,12 @@ known-returns lim ws r ms ex bs cl = record { from = from; whole = whole }
         (subst (λ (z : Move). On (2 * d) (backIn z (getD ms a 0))) (sym o) (on-bare d (getD ms a 0) c h p)))
 
 -- marks with no open address are the least set
-pub settled : (lim : ℕ) (ws : List ℕ) (r : ℕ) (ms₀ ms : List ℕ) {a f : ℕ} → lim ≤ deepest → Sound lim ws ms → On 0 (getD ms 0 0) → Backs lim ws r → length ms ≡ length ms₀ → ((k : ℕ) → length ws ≤ k → getD ms k 0 ≡ getD ms₀ k 0)
+pub settled : (lim : ℕ) (ws : List ℕ) (r : ℕ) (ms₀ ms : List ℕ) {a f : ℕ} → lim ≤ deepest → Sound lim ws ms → On 0 (getD ms 0 0) → Backs lim ws r → Depths r → length ms ≡ length ms₀ → ((k : ℕ) → length ws ≤ k → getD ms k 0 ≡ getD ms₀ k 0)
     → OpenIs lim ws r ms a f → length ws ≤ a → Settled lim ws ms₀ ms r f
-settled lim ws r ms₀ ms t s b bs long tail (closed k h) l =
+settled lim ws r ms₀ ms t s b bs ds long tail (closed k h) l =
     let ex = exact lim ws r ms t b k s in
-    record { marked = record { long = long; exact = ex; tail = tail }; returns = known-returns lim ws r ms ex bs k; fault = h }
-settled lim ws r ms₀ ms t s b bs long tail (first h o) l = absurd (omega arith)
+    record { marked = record { long = long; exact = ex; tail = tail }; returns = known-returns lim ws r ms ex bs k; depths = ds; fault = h }
+settled lim ws r ms₀ ms t s b bs ds long tail (first h o) l = absurd (omega arith)
 
 -- ---- the first fault
 

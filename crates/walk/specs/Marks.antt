@@ -29,6 +29,10 @@ Sound lim ws ms = (a d : ℕ) (c : Bool) → a < length ws → On (place d c) (g
 abbrev pub Backs : ℕ → List ℕ → ℕ → Type 0
 Backs lim ws r = (d : ℕ) → On (2 * d) r → (a : ℕ) × (c : Bool) × (a < length ws) × (moveAt ws a ≡ Leave) × Reached lim ws a d c
 
+-- a mask of depths has none of the bits between them
+abbrev pub Depths : ℕ → Type 0
+Depths r = (d : ℕ) → On (2 * d + 1) r → ⊥
+
 -- what is left to set
 unfoldable pub left : List ℕ → ℕ
 left [] = 0
@@ -67,6 +71,7 @@ pub record Grew (lim : ℕ) (ws : List ℕ) (r : ℕ) (ms : List ℕ) (q : ℕ) 
   pub tail : (a : ℕ) → length ws ≤ a → getD ns a 0 ≡ getD ms a 0
   pub sound : Backs lim ws r → Sound lim ws ms → Sound lim ws ns
   pub backs : Backs lim ws r → Sound lim ws ms → Backs lim ws q
+  pub depths : Depths r → Depths q
 
 -- all that address a leads to is marked, and its depths are known where it is a RETURN
 pub record ClosedAt (lim : ℕ) (ws : List ℕ) (r : ℕ) (ms : List ℕ) (a : ℕ) : Type 0 where
@@ -204,4 +209,5 @@ pub record Marked (lim : ℕ) (ws ms ns : List ℕ) : Type 0 where
 pub record Settled (lim : ℕ) (ws ms ns : List ℕ) (r f : ℕ) : Type 0 where
   pub marked : Marked lim ws ms ns
   pub returns : Returns ws ns (length ws) r
+  pub depths : Depths r
   pub fault : FirstFault lim ws ns (length ws) f

@@ -43,6 +43,7 @@ returns c =
     record {
       marked = record { long = k′ .long ∙ length-set (k .last .0) 0 1 ∙ k .kept .0; exact = k′ .exact; tail = λ a l. k′ .tail a l ∙ getD-set-other (k .last .0) 0 a 1 0 (λ q. omega arith) ∙ k .ensures .tail a l };
       returns = e .returns;
+      depths = e .depths;
       fault = e .fault;
     }
 
