@@ -24,7 +24,7 @@ use instruction::WordAddress;
 use listing::list;
 use machine::Condition;
 use reader::Reading;
-use reader::read_at_once;
+use reader::read;
 use rehearsal::Answer;
 use rehearsal::run;
 use verdict::Verdict;
@@ -78,7 +78,7 @@ fn fields_of(i: Instruction) -> [u64; Lent::FIELDS]
 pub extern "C" fn aps2_read(word: u64, fields: &mut [u64; Lent::FIELDS]) -> u64
     ensures { λ r. ⌜ Read (readingOf word) r (now (fields .exit)) ⌝ }
 {
-    let reading = read_at_once(word);
+    let reading = read(word);
     match reading {
         Reading::Accepted(i) => {
             *fields = fields_of(i);

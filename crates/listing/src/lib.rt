@@ -11,7 +11,8 @@ ghost use Rattle.listing.specs.Listing.{wordBytes, byteSpan, wordAt, nam
 use instruction::Body;
 use instruction::Instruction;
 use reader::Reading;
-use reader::read;
+use reader::instruction_in;
+use reader::refusal_of;
 
 pub struct Listing;
 
@@ -238,7 +239,7 @@ fn put_line(page: &mut [u8], at: usize, address: u64, word: u64) -> usize
     requires { ⌜ Fits (lineText (number address) (entriesIn (readingOf word))) (now page) at ⌝ }
     ensures { λ r. ⌜ Put (lineText (number address) (entriesIn (readingOf word))) (now (page .entry)) at (now (page .exit)) r ⌝ }
 {
-    let reading = read(word);
+    let reading = Reading::of(refusal_of(word), instruction_in(word));
     let told = put_number(page, at, address);
     put_reading(page, told, reading)
 }

@@ -1,6 +1,6 @@
 -- Laws of reading: what a word reads as, by its tests.
 -- Assumes nothing.
-use mathlib.Core.Path.{_≡_, refl, sym, ap, _∙_}
+use mathlib.Core.Path.{_≡_, refl, sym, ap, ap₂, _∙_}
 use mathlib.Core.Bool.{Bool, true, false, not, _&&_}
 use mathlib.Core.List.{List}
 use native.Mathlib.Decide.{ℕ-discrete}
@@ -19,6 +19,7 @@ use Rattle.instruction.specs.declared.Body.{Body}
 use Rattle.instruction.specs.declared.Body.the-variants.{Waveform}
 use Rattle.instruction.proofs.Laws.{form-at}
 use Rattle.reader.specs.Reading.{hasUnnamed, notItsOp, formIn, instructionIn, judged, readingOf, refusalOf, numberOf}
+use Rattle.reader.specs.declared.Reading.{Reading}
 use Rattle.reader.specs.declared.Reading.the-variants.{Accepted, Refused}
 
 pub reads-noop : (w : ℕ) → w ≡ noopWord → readingOf w ≡ Accepted noop
@@ -137,6 +138,9 @@ module _ (w : ℕ) where
       by : Dec (numberOf (readingOf w) ≡ 0) → judged (numberOf (readingOf w)) (instructionIn w) ≡ readingOf w
       by (yes z) = ap (λ (b : Bool). pick b (Accepted (instructionIn w)) (Refused (refusalOf (readingOf w)))) (eq-eqb (numberOf (readingOf w)) 0 z) ∙ reads-instruction z
       by (no n) = ap (λ (b : Bool). pick b (Accepted (instructionIn w)) (Refused (refusalOf (readingOf w)))) (ne-eqb (numberOf (readingOf w)) 0 n) ∙ refuses-whole n
+
+  pub put-together : {r : Reading} {q : Refusal} {i : Instruction} → r ≡ judged (q .number) i → q ≡ refusalOf (readingOf w) → i ≡ instructionIn w → r ≡ readingOf w
+  put-together e f g = e ∙ ap₂ (λ (q : Refusal) (i : Instruction). judged (q .number) i) f g ∙ puts-together
 
 -- ---- by the op code
 

@@ -196,12 +196,6 @@ pub fn instruction_in(word: u64) -> Instruction
     Instruction::spelled_by(word)
 }
 
-pub fn read(word: u64) -> Reading
-    ensures { λ r. ⌜ r ≡ readingOf word ⌝ }
-{
-    Reading::of(refusal_of(word), instruction_in(word))
-}
-
 // What a word that is not NOOP reads as, of its number and the body that it spells.
 fn judge(number: u64, word: u64, body: Body) -> Reading
     ensures { λ r. ⌜ r ≡ judged number (record { engine = held word engineSelect; write = held word writeFlag; body = body }) ⌝ }
@@ -251,8 +245,8 @@ fn read_named(word: u64) -> Reading
     }
 }
 
-// The same as `read`, for a caller that takes the reading apart at once.
-pub fn read_at_once(word: u64) -> Reading
+// What a word reads as. A caller that reads many kinds of words in one place puts the reading together instead (`Reading::of`).
+pub fn read(word: u64) -> Reading
     ensures { λ r. ⌜ r ≡ readingOf word ⌝ }
 {
     if word == Instruction::NOOP {

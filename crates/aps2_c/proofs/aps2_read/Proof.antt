@@ -6,8 +6,8 @@ use borrow.Author.Needs.{needs}
 use Rattle.aps2_c.proofs.aps2_read.Statement.{statement}
 use Rattle.aps2_c.proofs.aps2_read.Tie as tie
 
-read-at-once-requires : tie.Need-read-at-once-requires
-read-at-once-requires c κs = search needs
+read-requires : tie.Need-read-requires
+read-requires c κs = search needs
 
 enum-known-reading : tie.Need-enum-known-reading
 enum-known-reading c = search needs
@@ -20,19 +20,19 @@ enum-known-reading-2 c = search needs
 
 returns : tie.Need-returns
 returns c =
-    let e = sym (c .before .before .reading .given .1) ∙ c .before .before .before .before .read-at-once .ensures in
+    let e = sym (c .before .before .reading .given .1) ∙ c .before .before .before .before .read .ensures in
     record { number = ap numberOf e; fields = c .fields-of .ensures ∙ ap told e }
 
 returns-2 : tie.Need-returns-2
 returns-2 c =
-    let e = sym (c .before .before .reading2 .given .1) ∙ c .before .before .before .before .read-at-once .ensures in
+    let e = sym (c .before .before .reading2 .given .1) ∙ c .before .before .before .before .read .ensures in
     record { number = ap numberOf e; fields = ap told e }
 
 pub aps2-read-spec : {M : Type 1} → statement M
 aps2-read-spec =
     tie.close
     (tie.spec
-    read-at-once-requires
+    read-requires
     enum-known-reading
     fields-of-requires
     enum-known-reading-2

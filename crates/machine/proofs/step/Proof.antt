@@ -1,11 +1,9 @@
 -- By the address, and by what the word reads as.
-use mathlib.Core.Path.{refl, sym, ap, ap₂, _∙_}
+use mathlib.Core.Path.{refl, sym, ap, _∙_}
 use denote.Ref.{now}
 use lib.ListN.{length}
-use Rattle.instruction.specs.declared.Refusal.{Refusal}
-use Rattle.instruction.specs.declared.Instruction.{Instruction}
-use Rattle.reader.specs.Reading.{refusalOf, judged}
-use Rattle.reader.proofs.Laws.{puts-together}
+use Rattle.reader.specs.Reading.{refusalOf}
+use Rattle.reader.proofs.Laws.{put-together}
 use Rattle.machine.specs.State.{fixedBy, stateOf}
 use Rattle.machine.proofs.Laws.{quiet, stopped-done, refused-done, step-past, step-refused, step-accepted}
 use borrow.Author.Needs.{needs}
@@ -47,7 +45,7 @@ refusal-requires c κs = search needs
 returns-2 : tie.Need-returns-2
 returns-2 c =
     let a = c .before .before .before .before .before .before .before .before .before .before .before .args in
-    rw (step-refused (fixedBy (now (a .words)) (now (a .messages)) (length (now (a .trace))) (a .setting)) (stateOf (a .s) (now (a .returns)) (now (a .counters)) (now (a .waits)) (now (a .totals))) _ (c .before .before .before .before .before .before .before .if1 .left) (sym (c .before .before .before .of .ensures ∙ ap₂ (λ (r : Refusal) (i : Instruction). judged (r .number) i) (c .before .before .before .before .before .refusal-of .ensures) (c .before .before .before .before .instruction-in .ensures) ∙ puts-together _) ∙ c .before .enum-told .given .1))
+    rw (step-refused (fixedBy (now (a .words)) (now (a .messages)) (length (now (a .trace))) (a .setting)) (stateOf (a .s) (now (a .returns)) (now (a .counters)) (now (a .waits)) (now (a .totals))) _ (c .before .before .before .before .before .before .before .if1 .left) (sym (put-together _ (c .before .before .before .of .ensures) (c .before .before .before .before .before .refusal-of .ensures) (c .before .before .before .before .instruction-in .ensures)) ∙ c .before .enum-told .given .1))
     (quiet (a .s .sent) (now (a .trace)) refl (refused-done (c .refusal .ensures ∙ ap refusalOf (c .before .enum-told .given .1))))
 
 execute-requires : tie.Need-execute-requires
@@ -59,7 +57,7 @@ same-length c = search needs
 returns-3 : tie.Need-returns-3
 returns-3 c =
     let a = c .before .before .before .before .before .before .before .before .before .before .before .before .before .before .before .before .before .before .before .args in
-    rw (step-accepted (fixedBy (now (a .words)) (now (a .messages)) (length (now (a .trace))) (a .setting)) (stateOf (a .s) (now (a .returns)) (now (a .counters)) (now (a .waits)) (now (a .totals))) _ (c .before .before .before .before .before .before .before .before .before .before .before .before .before .before .before .if1 .left) (sym (c .before .before .before .before .before .before .before .before .before .before .before .of .ensures ∙ ap₂ (λ (r : Refusal) (i : Instruction). judged (r .number) i) (c .before .before .before .before .before .before .before .before .before .before .before .before .before .refusal-of .ensures) (c .before .before .before .before .before .before .before .before .before .before .before .before .instruction-in .ensures) ∙ puts-together _) ∙ c .before .before .before .before .before .before .before .before .before .reading .given .1)) (c .before .before .execute .ensures)
+    rw (step-accepted (fixedBy (now (a .words)) (now (a .messages)) (length (now (a .trace))) (a .setting)) (stateOf (a .s) (now (a .returns)) (now (a .counters)) (now (a .waits)) (now (a .totals))) _ (c .before .before .before .before .before .before .before .before .before .before .before .before .before .before .before .if1 .left) (sym (put-together _ (c .before .before .before .before .before .before .before .before .before .before .before .of .ensures) (c .before .before .before .before .before .before .before .before .before .before .before .before .before .refusal-of .ensures) (c .before .before .before .before .before .before .before .before .before .before .before .before .instruction-in .ensures)) ∙ c .before .before .before .before .before .before .before .before .before .reading .given .1)) (c .before .before .execute .ensures)
 
 pub step-spec : {M : Type 1} → statement M
 step-spec =

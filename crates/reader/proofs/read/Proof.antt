@@ -1,24 +1,47 @@
--- Out of its number and its instruction.
-use mathlib.Core.Path.{ap₂, _∙_}
-use Rattle.instruction.specs.declared.Refusal.{Refusal}
-use Rattle.instruction.specs.declared.Instruction.{Instruction}
+-- NOOP first; then each return is where the tests before it failed and its own held.
+use mathlib.Core.Path.{sym, ap, _∙_}
+use Prim.Native.Nat.{ℕ}
+use native.Mathlib.Omega.{arith}
+use Rattle.instruction.specs.Word.{spelledBy}
 use Rattle.reader.specs.Reading.{judged}
-use Rattle.reader.proofs.Laws.{puts-together}
+use Rattle.reader.proofs.Laws.{reads-noop, reads-form, form-10, form-11}
 use borrow.Author.Needs.{needs}
 use Rattle.reader.proofs.read.Statement.{statement}
 use Rattle.reader.proofs.read.Tie as tie
 
-refusal-of-requires : tie.Need-refusal-of-requires
-refusal-of-requires c κs = search needs
-
-instruction-in-requires : tie.Need-instruction-in-requires
-instruction-in-requires c κs = search needs
-
-of-requires : tie.Need-of-requires
-of-requires c κs = search needs
-
 returns : tie.Need-returns
-returns c = c .of .ensures ∙ ap₂ (λ (r : Refusal) (i : Instruction). judged (r .number) i) (c .before .before .refusal-of .ensures) (c .before .instruction-in .ensures) ∙ puts-together (c .before .before .before .args .word)
+returns c = sym (reads-noop (c .before .args .word) (c .if1 .taken))
+
+code-in-requires : tie.Need-code-in-requires
+code-in-requires c κs = search needs
+
+returns-2 : tie.Need-returns-2
+returns-2 c =
+    let w = c .before .before .before .args .word in
+    ap (λ (n : ℕ). judged n (spelledBy w)) (sym (form-10 w (omega (arith, c .if2 .taken, c .before .code-in .ensures)))) ∙ sym (reads-form w (c .before .before .if1 .left))
+
+has-unnamed-requires : tie.Need-has-unnamed-requires
+has-unnamed-requires c κs = search needs
+
+returns-3 : tie.Need-returns-3
+returns-3 c =
+    let w = c .before .before .before .before .before .args .word in
+    ap (λ (n : ℕ). judged n (spelledBy w)) (sym (form-11 w (omega (arith, c .before .before .if2 .left, c .before .before .before .code-in .ensures)) (sym (c .before .has-unnamed .ensures) ∙ c .if3 .taken))) ∙ sym (reads-form w (c .before .before .before .before .if1 .left))
+
+read-named-requires : tie.Need-read-named-requires
+read-named-requires c κs = (omega (arith, c .before .before .if2 .left, c .before .before .before .code-in .ensures), sym (c .before .has-unnamed .ensures) ∙ c .if3 .left)
+
+returns-4 : tie.Need-returns-4
+returns-4 c = c .read-named .ensures ∙ sym (reads-form (c .before .before .before .before .before .before .args .word) (c .before .before .before .before .before .if1 .left))
 
 pub read-spec : {M : Type 1} → statement M
-read-spec = tie.close (tie.spec refusal-of-requires instruction-in-requires of-requires returns)
+read-spec =
+    tie.close
+    (tie.spec
+    returns
+    code-in-requires
+    returns-2
+    has-unnamed-requires
+    returns-3
+    read-named-requires
+    returns-4)
