@@ -24,13 +24,14 @@ static double now(void)
     return (double)m.seconds * 1e9 + (double)m.nanoseconds;
 }
 
-/* What both are given, and what each gives back; `lent` is the marks or the trace, and `room` says how much of it is lent. */
+/* What both are given, and what each gives back; `lent` is the marks or the trace, and `room` says how much of it is lent.
+   Both stand at the start of a page, so that neither is slowed by where the linker put it. */
 static uint64_t words[WORDS];
 static uint8_t raw[8 * LISTED];
 static size_t n, room;
 struct answer {
-    uint64_t number, place[1], fields[8], answer[54], lent[STEPS];
-};
+    uint64_t fields[8], number, place[1], answer[54], lent[STEPS];
+} __attribute__((aligned(4096)));
 static struct answer ours, theirs;
 
 static void our_reading(void)
