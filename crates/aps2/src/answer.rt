@@ -1,8 +1,7 @@
 // The three answers: the listing; the verdict with the word that it is about; how a run ended, and all that it left.
 use crate::asked::Asked;
-use crate::asked::LONGEST;
-use crate::asked::MOST_ROOM;
 use crate::messages::messages_of;
+use crate::space;
 use crate::told;
 use crate::told::say;
 use crate::told::say_number;
@@ -62,7 +61,7 @@ fn say_place(words: &[u64], place: usize) {
 }
 
 pub fn check(words: &[u64], wave: u64) {
-    let mut marks = [0u64; Sequence::WORDS as usize];
+    let mut marks = space::for_words();
     let verdict = verdict::check(words, wave, &mut marks);
     let number = verdict.refusal.number;
     if number == 0 {
@@ -220,15 +219,15 @@ fn rehearse_in_room(words: &[u64], messages: &[u8], trace: &mut [u64], asked: As
 }
 
 pub fn run(words: &[u64], asked: Asked) {
-    let mut messages = [0u8; LONGEST];
+    let mut messages = io::large_buffer();
     let heard = messages_of(asked.messages, &mut messages);
     let n = heard.count;
     if !heard.good {
         told::ends(told::NO_ANSWER, 0);
         return;
     }
-    if n <= LONGEST {
-        let mut trace = [0u64; MOST_ROOM as usize];
+    if n <= messages.len() {
+        let mut trace = space::for_trace();
         rehearse_in_room(words, &messages[..n], &mut trace, asked);
     }
 }

@@ -6,9 +6,6 @@ use typed::Amount;
 use typed::number;
 use typed::same;
 
-// No argument is longer than the system's own limit.
-pub const LONGEST: usize = 131072;
-
 // The words of a trace that there can be room for.
 pub const MOST_ROOM: u32 = 524288;
 
@@ -270,7 +267,7 @@ fn most_of(option: u64) -> u32 {
 }
 
 fn take_argument(asked: Asked, i: usize) -> Asked {
-    let mut text = [0u8; LONGEST];
+    let mut text = io::large_buffer();
     let n = os::arg(i, &mut text);
     if os::errno() != 0 {
         complain(b"aps2: an argument is too long\n");

@@ -1,5 +1,4 @@
 // The words of a file or of standard input, and the messages of a run.
-use crate::asked::LONGEST;
 use crate::told::complain;
 use crate::told::complain_number;
 use crate::told::complain_of_file;
@@ -124,7 +123,7 @@ fn spelling_of(path: &[u8], hex: bool) -> Spelling {
 
 // The words of the file that an argument names.
 pub fn words_of(argument: usize, hex: bool, words: &mut [u64]) -> Found {
-    let mut name = [0u8; LONGEST];
+    let mut name = io::large_buffer();
     let n = os::arg(argument, &mut name);
     let path = &name[..n];
     if same(path, b"-") {

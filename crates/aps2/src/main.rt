@@ -4,6 +4,7 @@ mod answer;
 mod asked;
 mod input;
 mod messages;
+mod space;
 mod told;
 mod trace;
 
@@ -23,15 +24,15 @@ fn give(words: &[u64], asked: Asked) {
 }
 
 fn serve(asked: Asked) {
-    let mut space = [0u64; Sequence::WORDS as usize];
-    let found = input::words_of(asked.file, asked.hex, &mut space);
+    let mut words = space::for_words();
+    let found = input::words_of(asked.file, asked.hex, &mut words);
     let n = found.count;
     if !found.good {
         told::ends(told::NO_ANSWER, 0);
         return;
     }
     if n <= Sequence::WORDS as usize {
-        give(&space[..n], asked);
+        give(&words[..n], asked);
     }
 }
 

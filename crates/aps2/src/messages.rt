@@ -1,5 +1,4 @@
 // The messages of a run, as they are typed: numbers of a byte, parted by commas.
-use crate::asked::LONGEST;
 use crate::told::complain;
 use typed::Amount;
 use typed::number;
@@ -95,7 +94,7 @@ pub fn messages_of(argument: usize, out: &mut [u8]) -> Heard {
     if argument == 0 {
         return none;
     }
-    let mut text = [0u8; LONGEST];
+    let mut text = io::large_buffer();
     let n = os::arg(argument, &mut text);
     if n == 0 {
         return none;

@@ -1,5 +1,4 @@
 // The trace as a file of raw words.
-use crate::asked::LONGEST;
 use crate::told::complain_of_file;
 use typed::raw;
 
@@ -27,7 +26,7 @@ fn write_to(path: &[u8], words: &[u64]) -> bool {
 
 // Writes the words to the file that an argument names, and tells whether they are all there.
 pub fn save(argument: usize, words: &[u64]) -> bool {
-    let mut name = [0u8; LONGEST];
+    let mut name = io::large_buffer();
     let n = os::arg(argument, &mut name);
     let path = &name[..n];
     let is_written = write_to(path, words);

@@ -5,6 +5,15 @@ use lib.Seq.{length-take-le}
 use borrow.Author.Needs.{needs}
 use Rattle.aps2.proofs.serve.Statement.{statement}
 use Rattle.aps2.proofs.serve.Tie as tie
+use Rattle.aps2.proofs.serve.Reads as reads
+use Rattle.aps2.proofs.serve.Lts as lts
+use Rattle.aps2.proofs.give.Reads as give-reads
+use Rattle.aps2.proofs.input.words_of.Reads as words-of-reads
+use Rattle.aps2.proofs.space.for_words.Reads as for-words-reads
+use Rattle.aps2.proofs.told.ends.Reads as ends-reads
+
+for-words-requires : tie.Need-for-words-requires
+for-words-requires c κs = search needs
 
 slice-aggregate-words-of : tie.Need-slice-aggregate-words-of
 slice-aggregate-words-of c = search needs
@@ -18,8 +27,8 @@ ends-requires c κs = search needs
 returns : tie.Need-returns
 returns c = search needs
 
-array-share-prefix-space : tie.Need-array-share-prefix-space
-array-share-prefix-space c = search needs
+array-share-prefix-words : tie.Need-array-share-prefix-words
+array-share-prefix-words c = search needs
 
 slice-aggregate-give : tie.Need-slice-aggregate-give
 slice-aggregate-give c = sym (length-take-le (c .before .before .before .before .before .words-of .result .count) (c .before .before .before .before .before .words-of .last .1 .1 .0) (omega (arith, c .before .if2 .taken, c .before .before .before .before .before .words-of .kept .1 .1 .0)))
@@ -37,11 +46,12 @@ pub serve-spec : {M : Type 1} → statement M
 serve-spec =
     tie.close
     (tie.spec
+    for-words-requires
     slice-aggregate-words-of
     words-of-requires
     ends-requires
     returns
-    array-share-prefix-space
+    array-share-prefix-words
     slice-aggregate-give
     give-requires
     returns-2

@@ -5,6 +5,16 @@ use lib.Seq.{length-take-le}
 use borrow.Author.Needs.{needs}
 use Rattle.aps2.proofs.answer.run.Statement.{statement}
 use Rattle.aps2.proofs.answer.run.Tie as tie
+use Rattle.aps2.proofs.answer.run.Reads as reads
+use Rattle.aps2.proofs.answer.run.Lts as lts
+use Rattle.aps2.proofs.answer.rehearse_in_room.Reads as rehearse-in-room-reads
+use Rattle.aps2.proofs.messages.messages_of.Reads as messages-of-reads
+use Rattle.aps2.proofs.space.for_trace.Reads as for-trace-reads
+use Rattle.aps2.proofs.told.ends.Reads as ends-reads
+use Rattle.io.proofs.large_buffer.Reads as large-buffer-reads
+
+large-buffer-requires : tie.Need-large-buffer-requires
+large-buffer-requires c κs = search needs
 
 slice-aggregate-messages-of : tie.Need-slice-aggregate-messages-of
 slice-aggregate-messages-of c = search needs
@@ -18,11 +28,14 @@ ends-requires c κs = search needs
 returns : tie.Need-returns
 returns c = search needs
 
+for-trace-requires : tie.Need-for-trace-requires
+for-trace-requires c κs = search needs
+
 array-share-prefix-messages : tie.Need-array-share-prefix-messages
 array-share-prefix-messages c = search needs
 
 slice-aggregate-rehearse-in-room : tie.Need-slice-aggregate-rehearse-in-room
-slice-aggregate-rehearse-in-room c = sym (length-take-le (c .before .before .before .before .before .messages-of .result .count) (c .before .before .before .before .before .messages-of .last .1 .0) (omega (arith, c .before .if2 .taken, c .before .before .before .before .before .messages-of .kept .1 .0)))
+slice-aggregate-rehearse-in-room c = sym (length-take-le (c .before .before .before .before .before .before .messages-of .result .count) (c .before .before .before .before .before .before .messages-of .last .1 .0) (omega (arith, c .before .before .if2 .taken, c .before .before .before .before .before .before .messages-of .kept .1 .0)))
 
 slice-aggregate-rehearse-in-room-2 : tie.Need-slice-aggregate-rehearse-in-room-2
 slice-aggregate-rehearse-in-room-2 c = search needs
@@ -40,10 +53,12 @@ pub run-spec : {M : Type 1} → statement M
 run-spec =
     tie.close
     (tie.spec
+    large-buffer-requires
     slice-aggregate-messages-of
     messages-of-requires
     ends-requires
     returns
+    for-trace-requires
     array-share-prefix-messages
     slice-aggregate-rehearse-in-room
     slice-aggregate-rehearse-in-room-2
