@@ -535,13 +535,9 @@ fn settle(words: &[u64], marks: &mut [u64], limit: u64) -> Seen
             };
         }
         let mark = marks[a];
-        let from = Trail {
-            hints: s.hints,
-            calls: s.calls,
-            back: s.back,
-            at: a,
-            mark,
-        };
+        let mut from = s;
+        from.at = a;
+        from.mark = mark;
         s = follow(
             words,
             marks,
