@@ -5,12 +5,6 @@ use lib.Seq.{length-take-le}
 use borrow.Author.Needs.{needs}
 use Rattle.aps2.proofs.serve.Statement.{statement}
 use Rattle.aps2.proofs.serve.Tie as tie
-use Rattle.aps2.proofs.serve.Reads as reads
-use Rattle.aps2.proofs.serve.Lts as lts
-use Rattle.aps2.proofs.give.Reads as give-reads
-use Rattle.aps2.proofs.input.words_of.Reads as words-of-reads
-use Rattle.aps2.proofs.space.for_words.Reads as for-words-reads
-use Rattle.aps2.proofs.told.ends.Reads as ends-reads
 
 for-words-requires : tie.Need-for-words-requires
 for-words-requires c κs = search needs

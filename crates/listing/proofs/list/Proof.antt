@@ -1,8 +1,9 @@
 -- The page holds the listing; it is handed over where it fits.
-use mathlib.Core.Path.{_∙_}
+use Prim.Native.Nat.{ℕ}
+use mathlib.Core.Path.{sym, _∙_}
 use native.Mathlib.Nat.{zero-add}
 use native.Mathlib.Omega.{arith}
-use lib.ListN.{length, replicate}
+use lib.ListN.{length, replicate, length-replicate}
 use Rattle.listing.specs.Listing.{listingOf, pageSize}
 use Rattle.listing.proofs.Lines.{listed-not, listed-whole}
 use Rattle.listing.proofs.Room.{listing-short}
@@ -11,7 +12,7 @@ use Rattle.listing.proofs.list.Statement.{statement}
 use Rattle.listing.proofs.list.Tie as tie
 
 slice-aggregate-lay-out : tie.Need-slice-aggregate-lay-out
-slice-aggregate-lay-out c = search needs
+slice-aggregate-lay-out c = sym (length-replicate {A = ℕ} pageSize 0)
 
 lay-out-requires : tie.Need-lay-out-requires
 lay-out-requires c κs = search needs

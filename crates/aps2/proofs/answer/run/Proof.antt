@@ -5,13 +5,6 @@ use lib.Seq.{length-take-le}
 use borrow.Author.Needs.{needs}
 use Rattle.aps2.proofs.answer.run.Statement.{statement}
 use Rattle.aps2.proofs.answer.run.Tie as tie
-use Rattle.aps2.proofs.answer.run.Reads as reads
-use Rattle.aps2.proofs.answer.run.Lts as lts
-use Rattle.aps2.proofs.answer.rehearse_in_room.Reads as rehearse-in-room-reads
-use Rattle.aps2.proofs.messages.messages_of.Reads as messages-of-reads
-use Rattle.aps2.proofs.space.for_trace.Reads as for-trace-reads
-use Rattle.aps2.proofs.told.ends.Reads as ends-reads
-use Rattle.io.proofs.large_buffer.Reads as large-buffer-reads
 
 large-buffer-requires : tie.Need-large-buffer-requires
 large-buffer-requires c κs = search needs

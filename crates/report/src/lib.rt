@@ -1,0 +1,5 @@
+// What a person is told: words as lines of the listing, and all that a run left, by name.
+// The answer goes to standard output; how it ended goes to the script, too.
+pub mod state;
+pub mod told;
+pub mod words;

@@ -1,0 +1,321 @@
+// What is asked: the command, its file and its options. What cannot be understood is said at once, in a sentence.
+use crate::complaint::complain;
+use crate::complaint::complain_number;
+use sequence::Sequence;
+use typed::Amount;
+use typed::number;
+use typed::same;
+
+pub const LIST: u64 = 1;
+
+pub const CHECK: u64 = 2;
+
+pub const RUN: u64 = 3;
+
+const HEX: u64 = 1;
+
+const WAVE: u64 = 2;
+
+const TRIGGERS: u64 = 3;
+
+const MESSAGES: u64 = 4;
+
+const BUDGET: u64 = 5;
+
+const ROOM: u64 = 6;
+
+const TRACE: u64 = 7;
+
+// An option that waits for its value is `pending`. A file is told by its place among the arguments; 0 is none.
+pub struct Asked {
+    pub command: u64,
+    pub pending: u64,
+    pub file: usize,
+    pub messages: usize,
+    pub trace: usize,
+    pub hex: bool,
+    pub has_wave: bool,
+    pub wave: u64,
+    pub triggers: u64,
+    pub budget: u64,
+    pub room: u64,
+    pub good: bool,
+}
+
+fn command_named(text: &[u8]) -> u64 {
+    if same(text, b"list") {
+        return LIST;
+    }
+    if same(text, b"check") {
+        return CHECK;
+    }
+    if same(text, b"run") {
+        return RUN;
+    }
+    0
+}
+
+// The options with a number after them.
+fn counted_option(text: &[u8]) -> u64 {
+    if same(text, b"--wave") {
+        return WAVE;
+    }
+    if same(text, b"--triggers") {
+        return TRIGGERS;
+    }
+    if same(text, b"--budget") {
+        return BUDGET;
+    }
+    if same(text, b"--room") {
+        return ROOM;
+    }
+    0
+}
+
+fn option_named(text: &[u8]) -> u64 {
+    if same(text, b"--hex") {
+        return HEX;
+    }
+    if same(text, b"--messages") {
+        return MESSAGES;
+    }
+    if same(text, b"--trace") {
+        return TRACE;
+    }
+    counted_option(text)
+}
+
+fn complain_of_option(option: u64) {
+    match option {
+        WAVE => complain(b"aps2: --wave"),
+        TRIGGERS => complain(b"aps2: --triggers"),
+        MESSAGES => complain(b"aps2: --messages"),
+        BUDGET => complain(b"aps2: --budget"),
+        ROOM => complain(b"aps2: --room"),
+        _ => complain(b"aps2: --trace"),
+    }
+}
+
+// Whether a command has an option: every one reads words, all but the listing need a waveform memory, and the others are of a run.
+fn has_option(command: u64, option: u64) -> bool {
+    if option == 0 {
+        return false;
+    }
+    (option == HEX) | (option == WAVE) & (command != LIST) | (command == RUN)
+}
+
+fn is_option(text: &[u8]) -> bool {
+    if text.len() < 2 {
+        return false;
+    }
+    text[0] == b'-'
+}
+
+fn complain_of_value(option: u64, text: &[u8], why: &[u8]) {
+    complain_of_option(option);
+    complain(b" ");
+    complain(text);
+    complain(why);
+}
+
+impl Asked {
+    // The words of a trace that there is room for, unless more are asked for.
+    pub const ROOM: u64 = Sequence::WORDS;
+
+    // The words of a trace that there can be room for.
+    pub const MOST_ROOM: u64 = 8 * Sequence::WORDS;
+
+    fn of(command: u64) -> Asked {
+        Asked {
+            command,
+            pending: 0,
+            file: 0,
+            messages: 0,
+            trace: 0,
+            hex: false,
+            has_wave: false,
+            wave: 0,
+            triggers: 0,
+            budget: Sequence::BUDGET,
+            room: Asked::ROOM,
+            good: true,
+        }
+    }
+
+    fn bad(mut self) -> Asked {
+        self.good = false;
+        self
+    }
+
+    // A word that is no option and no value: the file, of which there is one.
+    fn with_file(mut self, text: &[u8], i: usize) -> Asked {
+        if self.file != 0 {
+            complain(b"aps2: one file at a time, and ");
+            complain(text);
+            complain(b" is one more\n");
+            return self.bad();
+        }
+        self.file = i;
+        self
+    }
+
+    fn without_option(self, text: &[u8]) -> Asked {
+        complain(b"aps2: ");
+        complain(text);
+        complain(
+            b" is no option of this command; --help after the command tells which there are\n",
+        );
+        self.bad()
+    }
+
+    fn with_option(mut self, text: &[u8]) -> Asked {
+        let option = option_named(text);
+        if !has_option(self.command, option) {
+            return self.without_option(text);
+        }
+        if option == HEX {
+            self.hex = true;
+            return self;
+        }
+        self.pending = option;
+        self
+    }
+
+    fn with_number(mut self, option: u64, n: u64) -> Asked {
+        if option == WAVE {
+            self.wave = n;
+            self.has_wave = true;
+        }
+        if option == TRIGGERS {
+            self.triggers = n;
+        }
+        if option == BUDGET {
+            self.budget = n;
+        }
+        if option == ROOM {
+            self.room = n;
+        }
+        self
+    }
+
+    // The number after an option.
+    fn counted(self, option: u64, text: &[u8], most: u32) -> Asked {
+        match number(text, most) {
+            Amount::Is(n) => self.with_number(option, n),
+            Amount::NoNumber => {
+                complain_of_value(option, text, b" is no number; write it in decimal digits\n");
+                self.bad()
+            }
+            Amount::TooLarge => {
+                complain_of_value(option, text, b" is too large: ");
+                complain_number(most as u64);
+                complain(b" is the most\n");
+                self.bad()
+            }
+        }
+    }
+
+    // The value after an option.
+    fn with_value(mut self, text: &[u8], i: usize) -> Asked {
+        let option = self.pending;
+        self.pending = 0;
+        if option == MESSAGES {
+            self.messages = i;
+            return self;
+        }
+        if option == TRACE {
+            self.trace = i;
+            return self;
+        }
+        self.counted(option, text, most_of(option))
+    }
+
+    fn with_argument(self, text: &[u8], i: usize) -> Asked {
+        if !self.good {
+            return self;
+        }
+        if self.pending != 0 {
+            return self.with_value(text, i);
+        }
+        if is_option(text) {
+            return self.with_option(text);
+        }
+        self.with_file(text, i)
+    }
+
+    fn without_value(self) -> Asked {
+        complain_of_option(self.pending);
+        complain(b" needs a value after it\n");
+        self.bad()
+    }
+
+    fn without_file(self) -> Asked {
+        complain(b"aps2: which file? A name, or - for standard input\n");
+        self.bad()
+    }
+
+    fn without_wave(self) -> Asked {
+        complain(b"aps2: how long is the waveform memory? --wave and a number of quad-samples\n");
+        self.bad()
+    }
+
+    // What is still missing when there are no more arguments.
+    fn whole(self) -> Asked {
+        if !self.good {
+            return self;
+        }
+        if self.pending != 0 {
+            return self.without_value();
+        }
+        if self.file == 0 {
+            return self.without_file();
+        }
+        if (self.command != LIST) & !self.has_wave {
+            return self.without_wave();
+        }
+        self
+    }
+}
+
+fn most_of(option: u64) -> u32 {
+    match option {
+        WAVE => Sequence::WAVE as u32,
+        BUDGET => Sequence::BUDGET as u32,
+        ROOM => Asked::MOST_ROOM as u32,
+        _ => u32::MAX,
+    }
+}
+
+fn take_argument(asked: Asked, i: usize) -> Asked {
+    let mut text = io::large_buffer();
+    let n = os::arg(i, &mut text);
+    if os::errno() != 0 {
+        complain(b"aps2: an argument is too long\n");
+        return asked.bad();
+    }
+    asked.with_argument(&text[..n], i)
+}
+
+// All arguments after the command.
+fn after(command: u64) -> Asked {
+    let mut asked = Asked::of(command);
+    let n = os::arg_count();
+    let mut i: usize = 2;
+    while i < n {
+        asked = take_argument(asked, i);
+        i += 1;
+    }
+    asked.whole()
+}
+
+// All that is asked for.
+pub fn read() -> Asked {
+    let mut name = [0u8; 16];
+    let n = os::arg(1, &mut name);
+    let command = command_named(&name[..n]);
+    if command == 0 {
+        complain(b"aps2: no such command; ./aps2 --help tells which there are\n");
+        return Asked::of(0).bad();
+    }
+    after(command)
+}
