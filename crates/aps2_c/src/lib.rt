@@ -30,6 +30,7 @@ use rehearsal::run;
 use verdict::Verdict;
 use verdict::check;
 use writer::Written;
+use writer::widths::header_fits;
 use writer::write;
 
 // How many numbers C lends for the fields of an instruction, and for the answer of a run.
@@ -188,7 +189,7 @@ fn wish(fields: &[u64; Lent::FIELDS]) -> Written
             body,
         });
     }
-    if Instruction::header_fits(engine, flag) {
+    if header_fits(engine, flag) {
         return Written {
             number: Refusal::NO_SUCH_CODE,
             word: 0,

@@ -1,7 +1,8 @@
 // aps2_listing: reads raw words from standard input to its end and writes their listing. All that matters is in the library.
 // Of an input that is too long the first bytes are kept and the others only counted, as far as the listing depends on them.
 ghost use Prim.Native.Nat.{_≤_, _<_};
-ghost use Rattle.listing.specs.Listing.{wordBytes, heardSize};
+ghost use Rattle.instruction.specs.Word.{wordBytes};
+ghost use Rattle.listing.specs.Listing.{heardSize};
 use libc::STDIN_FILENO;
 use libc::STDOUT_FILENO;
 use listing::Listing;

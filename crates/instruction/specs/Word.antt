@@ -11,6 +11,16 @@ use Rattle.instruction.specs.declared.Body.{Body}
 use Rattle.instruction.specs.declared.Body.the-variants.{Noop}
 use Rattle.instruction.specs.declared.Instruction.{Instruction}
 
+-- ---- raw bytes
+
+-- "raw words .., eight bytes each"
+abbrev pub wordBytes : ℕ
+wordBytes = 8
+
+-- how many values a byte has
+abbrev pub byteSpan : ℕ
+byteSpan = 256
+
 -- ---- from a word
 
 abbrev pub codeIn : ℕ → ℕ

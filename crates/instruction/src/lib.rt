@@ -1,12 +1,10 @@
-// The instruction: its units, its fields with their places and widths, and the form numbers that it alone decides.
+// The instruction: its units, its fields with their places and widths, what a word spells, and the form numbers that it alone decides.
 // Reader and writer judge words and wishes by what stands here, so that both mean the same.
 ghost use mathlib.Core.Path.{_≡_};
-ghost use mathlib.Core.List.{[], _∷_};
-ghost use Prim.Native.Nat.{_+_, _≤_, _^_};
-ghost use Rattle.instruction.specs.Bits.{_gives_else_, span, held, heldIn, laid, laidOnto, allFit};
-ghost use Rattle.instruction.specs.Table.{opCode, engineSelect, writeFlag, engineOp, target, repeatCount, wholePayload, payloadOf, codeOf, valuesOf, waveformOf, markerOf, comparisonOf, modulatorOf, bodyOf};
+ghost use Rattle.instruction.specs.Bits.{_gives_else_, held, heldIn};
+ghost use Rattle.instruction.specs.Table.{engineSelect, writeFlag, engineOp, target, repeatCount, payloadOf, codeOf, waveformOf, markerOf, comparisonOf, modulatorOf, bodyOf};
 ghost use Rattle.instruction.specs.Form.{short, bodyForm, formOf};
-ghost use Rattle.instruction.specs.Word.{codeIn, valuesIn, spelledBy, wordOf, bodyFits, fitsOf};
+ghost use Rattle.instruction.specs.Word.{codeIn, valuesIn, spelledBy};
 
 // ---- Units: samples, quad-samples and word addresses are counted apart.
 
@@ -52,19 +50,6 @@ impl WordAddress {
         WordAddress((word >> WordAddress::PLACE.low) % (1 << WordAddress::PLACE.width))
     }
 
-    fn laid_onto(self, sum: u64) -> u64
-        requires { ⌜ sum + span wholePayload ≤ 2 ^ 64 ⌝ }
-        ensures { λ r. ⌜ r ≡ laidOnto sum (target ∷ []) (self .0 ∷ []) ⌝ }
-    {
-        sum + self.0 % (1 << WordAddress::PLACE.width) * (1 << WordAddress::PLACE.low)
-    }
-
-    fn fits(self) -> bool
-        ensures { λ r. ⌜ r ≡ allFit (target ∷ []) (self .0 ∷ []) ⌝ }
-    {
-        self.0 < 1 << WordAddress::PLACE.width
-    }
-
     fn prefetch_form(self) -> u64
         ensures { λ r. ⌜ r ≡ bodyForm 0 (Body.Prefetch self) ⌝ }
     {
@@ -102,14 +87,6 @@ impl EngineOp {
         ensures { λ r. ⌜ r ≡ held word engineOp ⌝ }
     {
         (word >> EngineOp::PLACE.low) % (1 << EngineOp::PLACE.width)
-    }
-
-    // The payload of WAIT or SYNC.
-    fn laid_onto(own: u64, sum: u64) -> u64
-        requires { ⌜ sum + span wholePayload ≤ 2 ^ 64 ⌝ }
-        ensures { λ r. ⌜ r ≡ laidOnto sum (engineOp ∷ []) (own ∷ []) ⌝ }
-    {
-        sum + own % (1 << EngineOp::PLACE.width) * (1 << EngineOp::PLACE.low)
     }
 
     // The form of WAIT or SYNC.
@@ -151,27 +128,6 @@ impl WaveformFields {
                 (word >> WaveformFields::ADDRESS.low) % (1 << WaveformFields::ADDRESS.width),
             ),
         }
-    }
-
-    fn laid_onto(self, sum: u64) -> u64
-        requires { ⌜ sum + span wholePayload ≤ 2 ^ 64 ⌝ }
-        ensures { λ r. ⌜ r ≡ laidOnto sum (payloadOf 0) (valuesOf (Body.Waveform self)) ⌝ }
-    {
-        sum
-            + self.op % (1 << EngineOp::PLACE.width) * (1 << EngineOp::PLACE.low)
-            + self.ta % (1 << WaveformFields::TA.width) * (1 << WaveformFields::TA.low)
-            + self.count.0 % (1 << WaveformFields::COUNT.width) * (1 << WaveformFields::COUNT.low)
-            + self.address.0 % (1 << WaveformFields::ADDRESS.width)
-                * (1 << WaveformFields::ADDRESS.low)
-    }
-
-    fn fits(self) -> bool
-        ensures { λ r. ⌜ r ≡ bodyFits (Body.Waveform self) ⌝ }
-    {
-        (self.op < 1 << EngineOp::PLACE.width)
-            & (self.ta < 1 << WaveformFields::TA.width)
-            & (self.count.0 < 1 << WaveformFields::COUNT.width)
-            & (self.address.0 < 1 << WaveformFields::ADDRESS.width)
     }
 
     pub fn form(self) -> u64
@@ -226,27 +182,6 @@ impl MarkerFields {
         }
     }
 
-    fn laid_onto(self, sum: u64) -> u64
-        requires { ⌜ sum + span wholePayload ≤ 2 ^ 64 ⌝ }
-        ensures { λ r. ⌜ r ≡ laidOnto sum (payloadOf 1) (valuesOf (Body.Marker self)) ⌝ }
-    {
-        sum
-            + self.op % (1 << EngineOp::PLACE.width) * (1 << EngineOp::PLACE.low)
-            + self.transition % (1 << MarkerFields::TRANSITION.width)
-                * (1 << MarkerFields::TRANSITION.low)
-            + self.state % (1 << MarkerFields::STATE.width) * (1 << MarkerFields::STATE.low)
-            + self.count.0 % (1 << MarkerFields::COUNT.width) * (1 << MarkerFields::COUNT.low)
-    }
-
-    fn fits(self) -> bool
-        ensures { λ r. ⌜ r ≡ bodyFits (Body.Marker self) ⌝ }
-    {
-        (self.op < 1 << EngineOp::PLACE.width)
-            & (self.transition < 1 << MarkerFields::TRANSITION.width)
-            & (self.state < 1 << MarkerFields::STATE.width)
-            & (self.count.0 < 1 << MarkerFields::COUNT.width)
-    }
-
     pub fn form(self) -> u64
         ensures { λ r. ⌜ r ≡ bodyForm 0 (Body.Marker self) ⌝ }
     {
@@ -279,13 +214,6 @@ impl Repeats {
     {
         Repeats((word >> Repeats::PLACE.low) % (1 << Repeats::PLACE.width))
     }
-
-    fn laid_onto(self, sum: u64) -> u64
-        requires { ⌜ sum + span wholePayload ≤ 2 ^ 64 ⌝ }
-        ensures { λ r. ⌜ r ≡ laidOnto sum (repeatCount ∷ []) (self .0 ∷ []) ⌝ }
-    {
-        sum + self.0 % (1 << Repeats::PLACE.width) * (1 << Repeats::PLACE.low)
-    }
 }
 
 pub struct Comparison {
@@ -312,21 +240,6 @@ impl Comparison {
             mask: (word >> Comparison::MASK.low) % (1 << Comparison::MASK.width),
         }
     }
-
-    fn laid_onto(self, sum: u64) -> u64
-        requires { ⌜ sum + span wholePayload ≤ 2 ^ 64 ⌝ }
-        ensures { λ r. ⌜ r ≡ laidOnto sum (payloadOf 5) (valuesOf (Body.Cmp self)) ⌝ }
-    {
-        sum
-            + self.code % (1 << Comparison::CODE.width) * (1 << Comparison::CODE.low)
-            + self.mask % (1 << Comparison::MASK.width) * (1 << Comparison::MASK.low)
-    }
-
-    fn fits(self) -> bool
-        ensures { λ r. ⌜ r ≡ bodyFits (Body.Cmp self) ⌝ }
-    {
-        (self.code < 1 << Comparison::CODE.width) & (self.mask < 1 << Comparison::MASK.width)
-    }
 }
 
 // The payload that RETURN and LOAD_CMP ignore: read as 0, and nothing else may be asked for.
@@ -334,13 +247,6 @@ pub struct Ignored(pub u64);
 
 impl Ignored {
     pub const PLACE: Field = Field { low: 0, width: 56 };
-
-    fn laid_onto(self, sum: u64) -> u64
-        requires { ⌜ sum + span wholePayload ≤ 2 ^ 64 ⌝ }
-        ensures { λ r. ⌜ r ≡ laidOnto sum (wholePayload ∷ []) (self .0 ∷ []) ⌝ }
-    {
-        sum + self.0 % (1 << Ignored::PLACE.width) * (1 << Ignored::PLACE.low)
-    }
 }
 
 pub struct ModulatorFields {
@@ -383,25 +289,6 @@ impl ModulatorFields {
             nco: (word >> ModulatorFields::NCO.low) % (1 << ModulatorFields::NCO.width),
             payload: (word >> ModulatorFields::PAYLOAD.low) % (1 << ModulatorFields::PAYLOAD.width),
         }
-    }
-
-    fn laid_onto(self, sum: u64) -> u64
-        requires { ⌜ sum + span wholePayload ≤ 2 ^ 64 ⌝ }
-        ensures { λ r. ⌜ r ≡ laidOnto sum (payloadOf 10) (valuesOf (Body.Modulator self)) ⌝ }
-    {
-        sum
-            + self.op % (1 << ModulatorFields::OP.width) * (1 << ModulatorFields::OP.low)
-            + self.nco % (1 << ModulatorFields::NCO.width) * (1 << ModulatorFields::NCO.low)
-            + self.payload % (1 << ModulatorFields::PAYLOAD.width)
-                * (1 << ModulatorFields::PAYLOAD.low)
-    }
-
-    fn fits(self) -> bool
-        ensures { λ r. ⌜ r ≡ bodyFits (Body.Modulator self) ⌝ }
-    {
-        (self.op < 1 << ModulatorFields::OP.width)
-            & (self.nco < 1 << ModulatorFields::NCO.width)
-            & (self.payload < 1 << ModulatorFields::PAYLOAD.width)
     }
 
     pub fn form(self) -> u64
@@ -501,6 +388,11 @@ impl Instruction {
 
     pub const WRITE: Field = Field { low: 56, width: 1 };
 
+    // The bytes of a word that is handed over raw, and the values of a byte.
+    pub const BYTES: u64 = 8;
+
+    pub const BYTE_SPAN: u64 = 256;
+
     pub fn code_in(word: u64) -> u64
         ensures { λ r. ⌜ r ≡ codeIn word ⌝ }
     {
@@ -528,47 +420,6 @@ impl Instruction {
             write: Instruction::write_in(word),
             body: Body::spelled_by(Instruction::code_in(word), word),
         }
-    }
-
-    fn header(code: u64, engine: u64, write: u64) -> u64
-        ensures { λ r. ⌜ r ≡ laidOnto (laid opCode code) (engineSelect ∷ writeFlag ∷ []) (engine ∷ write ∷ []) ⌝ }
-    {
-        code % (1 << Instruction::CODE.width) * (1 << Instruction::CODE.low)
-            + engine % (1 << Instruction::ENGINE.width) * (1 << Instruction::ENGINE.low)
-            + write % (1 << Instruction::WRITE.width) * (1 << Instruction::WRITE.low)
-    }
-
-    // The word with each field in its place, cut to its width.
-    pub fn word(self) -> u64
-        ensures { λ r. ⌜ r ≡ wordOf self ⌝ }
-    {
-        let body = self.body;
-        let code = body.code();
-        if code == Body::NOOP {
-            return Instruction::NOOP;
-        }
-        body.laid_onto(Instruction::header(code, self.engine, self.write))
-    }
-
-    // Engine select and write flag are not too wide.
-    pub fn header_fits(engine: u64, write: u64) -> bool
-        ensures { λ r. ⌜ r ≡ allFit (engineSelect ∷ writeFlag ∷ []) (engine ∷ write ∷ []) ⌝ }
-    {
-        (engine < 1 << Instruction::ENGINE.width) & (write < 1 << Instruction::WRITE.width)
-    }
-
-    // Nothing is asked that 23 is given for.
-    pub fn fits(self) -> bool
-        ensures { λ r. ⌜ r ≡ fitsOf self ⌝ }
-    {
-        let body = self.body;
-        let code = body.code();
-        let engine = self.engine;
-        let write = self.write;
-        if code == Body::NOOP {
-            return (engine == 0) & (write == 0);
-        }
-        Instruction::header_fits(engine, write) & body.fits()
     }
 
     // The form number of the instruction that the fields of a word spell.
@@ -671,49 +522,6 @@ impl Body {
             Body::LOAD_CMP => Body::LoadCmp(Ignored(0)),
             Body::PREFETCH => Body::Prefetch(WordAddress::spelled_by(word)),
             _ => Body::Noop,
-        }
-    }
-
-    fn laid_onto(self, sum: u64) -> u64
-        requires { ⌜ sum + span wholePayload ≤ 2 ^ 64 ⌝ }
-        ensures { λ r. ⌜ r ≡ laidOnto sum (payloadOf (codeOf self)) (valuesOf self) ⌝ }
-    {
-        match self {
-            Body::Waveform(f) => f.laid_onto(sum),
-            Body::Marker(f) => f.laid_onto(sum),
-            Body::Wait => EngineOp::laid_onto(EngineOp::WAIT_TRIGGER, sum),
-            Body::LoadRepeat(n) => n.laid_onto(sum),
-            Body::Repeat(a) => a.laid_onto(sum),
-            Body::Cmp(x) => x.laid_onto(sum),
-            Body::Goto(a) => a.laid_onto(sum),
-            Body::Call(a) => a.laid_onto(sum),
-            Body::Return(p) => p.laid_onto(sum),
-            Body::Sync => EngineOp::laid_onto(EngineOp::WAIT_SYNC, sum),
-            Body::Modulator(f) => f.laid_onto(sum),
-            Body::LoadCmp(p) => p.laid_onto(sum),
-            Body::Prefetch(a) => a.laid_onto(sum),
-            Body::Noop => sum,
-        }
-    }
-
-    fn fits(self) -> bool
-        ensures { λ r. ⌜ r ≡ bodyFits self ⌝ }
-    {
-        match self {
-            Body::Waveform(f) => f.fits(),
-            Body::Marker(f) => f.fits(),
-            Body::Wait => true,
-            Body::LoadRepeat(n) => n.0 < 1 << Repeats::PLACE.width,
-            Body::Repeat(a) => a.fits(),
-            Body::Cmp(x) => x.fits(),
-            Body::Goto(a) => a.fits(),
-            Body::Call(a) => a.fits(),
-            Body::Return(p) => p.0 == 0,
-            Body::Sync => true,
-            Body::Modulator(f) => f.fits(),
-            Body::LoadCmp(p) => p.0 == 0,
-            Body::Prefetch(a) => a.fits(),
-            Body::Noop => true,
         }
     }
 

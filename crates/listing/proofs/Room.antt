@@ -24,7 +24,8 @@ use Rattle.reader.specs.declared.Reading.{Reading}
 use Rattle.reader.proofs.Laws.{reads-noop, reads, refuses}
 use Rattle.reader.proofs.Masks.{none-below, code-small}
 use Rattle.listing.specs.Text.{number, letters, decimal, restText, lineText, textOf}
-use Rattle.listing.specs.Listing.{nameOf, showsNone, shownOf, entriesOf, entriesIn, wordAt, linesFrom, wordBytes, listedWords, listingOf, lineSize, pageSize}
+use Rattle.instruction.specs.Word.{wordBytes}
+use Rattle.listing.specs.Listing.{nameOf, showsNone, shownOf, entriesOf, entriesIn, wordAt, linesFrom, listedWords, listingOf, lineSize, pageSize}
 use Rattle.listing.proofs.Decimal.{decimal-short}
 use Rattle.listing.proofs.Lines.{noop-line, other-line, listing-8, listing-9, listing-lines}
 

@@ -12,18 +12,13 @@ use Rattle.instruction.specs.Table.{codeOf, isNoop, isIgnored, valuesOf}
 use Rattle.instruction.specs.declared.Instruction.{Instruction}
 use Rattle.instruction.specs.declared.Body.{Body}
 use Rattle.instruction.specs.declared.Body.the-variants.{Waveform, Marker, Wait, LoadRepeat, Repeat, Cmp, Goto, Call, Return, Sync, Modulator, LoadCmp, Prefetch, Noop}
+use Rattle.instruction.specs.Word.{wordBytes, byteSpan}
 use Rattle.reader.specs.Reading.{readingOf}
 use Rattle.reader.specs.declared.Reading.{Reading}
 use Rattle.reader.specs.declared.Reading.the-variants.{Accepted, Refused}
 use Rattle.listing.specs.Text.{Entry, name, number, Line, textOf}
 
 -- ---- words
-
-abbrev pub wordBytes : ℕ
-wordBytes = 8
-
-abbrev pub byteSpan : ℕ
-byteSpan = 256
 
 -- "most significant first": the number that k bytes make, from a place on
 abbrev pub bigEndian : List ℕ → ℕ → ℕ → ℕ

@@ -7,7 +7,8 @@ ghost use lib.ListN.{length, take, drop};
 ghost use Rattle.buffer.specs.Put.{Fits, Put};
 ghost use Rattle.reader.specs.Reading.{readingOf};
 ghost use Rattle.listing.specs.Text.{Entry, name, number, letters, digit, decimal, tab, lineFeed, restText, lineText, textOf};
-ghost use Rattle.listing.specs.Listing.{wordBytes, byteSpan, wordAt, nameOf, shownOf, entriesOf, entriesIn, linesFrom, listingOf, heardSize, heardOf, pageSize, Listed};
+ghost use Rattle.instruction.specs.Word.{wordBytes, byteSpan};
+ghost use Rattle.listing.specs.Listing.{wordAt, nameOf, shownOf, entriesOf, entriesIn, linesFrom, listingOf, heardSize, heardOf, pageSize, Listed};
 use instruction::Body;
 use instruction::Instruction;
 use reader::Reading;
@@ -19,9 +20,7 @@ pub struct Listing;
 impl Listing {
     pub const WORDS: usize = 2048;
 
-    pub const WORD_BYTES: usize = 8;
-
-    pub const BYTE_SPAN: u64 = 256;
+    pub const WORD_BYTES: usize = Instruction::BYTES as usize;
 
     // What the header line says of the listing's form.
     pub const EDITION: u64 = 1;
@@ -268,7 +267,7 @@ fn word_at(bytes: &[u8], a: usize) -> u64
     let mut word: u64 = 0;
     let mut k: usize = 0;
     while k < Listing::WORD_BYTES {
-        word = word * Listing::BYTE_SPAN + wide(bytes[from + k]);
+        word = word * Instruction::BYTE_SPAN + wide(bytes[from + k]);
         k += 1;
     }
     word

@@ -2,12 +2,12 @@
 // The word is judged by all its bits, never by its header alone.
 ghost use mathlib.Core.Path.{_≡_};
 ghost use mathlib.Core.Bool.{true, false};
-ghost use Prim.Native.Nat.{_<_, _≤_};
+ghost use Prim.Native.Nat.{_<_};
 ghost use Rattle.instruction.specs.Bits.{held};
 ghost use Rattle.instruction.specs.Table.{engineSelect, writeFlag};
-ghost use Rattle.instruction.specs.Word.{codeIn, spelledBy};
+ghost use Rattle.instruction.specs.Word.{spelledBy};
 ghost use lib.ListN.{getD};
-ghost use Rattle.reader.specs.Masks.{namedBits};
+ghost use Rattle.reader.specs.Masks.{namedBits, IsWaveform, IsFlow, IsCode};
 ghost use Rattle.reader.specs.Reading.{refusalOf, hasUnnamed, notItsOp, formIn, instructionIn, judged, readingOf};
 use instruction::Body;
 use instruction::Comparison;
@@ -126,7 +126,7 @@ fn form_in(word: u64) -> u64
 
 // A play with nothing wrong, which most words are.
 fn plays_well(word: u64) -> bool
-    requires { ⌜ codeIn word ≡ 0 ⌝ }
+    requires { ⌜ IsWaveform word ⌝ }
     ensures { λ r. ⌜ (r ≡ true → formIn word ≡ 0) ⌝ }
 {
     let f = WaveformFields::spelled_by(word);
@@ -135,7 +135,7 @@ fn plays_well(word: u64) -> bool
 
 // The form number of a WAVEFORM.
 fn waveform_form(word: u64) -> u64
-    requires { ⌜ codeIn word ≡ 0 ⌝ }
+    requires { ⌜ IsWaveform word ⌝ }
     ensures { λ r. ⌜ r ≡ formIn word ⌝ }
 {
     if plays_well(word) {
@@ -146,7 +146,7 @@ fn waveform_form(word: u64) -> u64
 
 // The form number of LOAD_REPEAT to RETURN: nothing but a bit that is not named can be wrong.
 fn flow_form(word: u64) -> u64
-    requires { ⌜ (3 ≤ codeIn word) × (codeIn word ≤ 8) ⌝ }
+    requires { ⌜ IsFlow word ⌝ }
     ensures { λ r. ⌜ r ≡ formIn word ⌝ }
 {
     if has_unnamed(word) {
@@ -212,7 +212,7 @@ fn judge(number: u64, word: u64, body: Body) -> Reading
 
 // A word whose bits are named, by its op code.
 fn read_named(word: u64) -> Reading
-    requires { ⌜ (codeIn word < 13) × (hasUnnamed word ≡ false) ⌝ }
+    requires { ⌜ IsCode word × (hasUnnamed word ≡ false) ⌝ }
     ensures { λ r. ⌜ r ≡ judged (formIn word) (spelledBy word) ⌝ }
 {
     match Instruction::code_in(word) {

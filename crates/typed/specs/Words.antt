@@ -7,6 +7,7 @@ use mathlib.Core.List.{List, [], _∷_, _++_}
 use lib.Dec.{ltb, leb, eqb}
 use lib.ListN.{length}
 use Rattle.instruction.specs.Bits.{pick, _gives_else_}
+use Rattle.instruction.specs.Word.{wordBytes, byteSpan}
 use Rattle.buffer.specs.Put.{put}
 use Rattle.typed.specs.Number.{between, isDigit}
 use Rattle.typed.specs.declared.Spelling.{Spelling}
@@ -60,7 +61,7 @@ abbrev pub hexGrown : ℕ → Taken → ℕ
 hexGrown d s = grown (2 ^ 60) 16 d s
 
 abbrev pub rawGrown : ℕ → Taken → ℕ
-rawGrown d s = grown (2 ^ 56) 256 d s
+rawGrown d s = grown (2 ^ 56) byteSpan d s
 
 -- a digit more, of a word that goes on or is whole
 abbrev pub onward : ℕ → ℕ → ℕ → Place → Taken
@@ -68,9 +69,6 @@ onward count value digits p = record { count = count; value = value; digits = di
 
 abbrev pub wordDigits : ℕ
 wordDigits = 16
-
-abbrev pub wordBytes : ℕ
-wordBytes = 8
 
 -- a word has begun and is not whole
 abbrev pub isPart : Taken → Bool
@@ -155,7 +153,7 @@ troubleOf spelling s = pick (eqb (s .trouble) 0) (endTrouble spelling s) (s .tro
 
 -- the byte that stands so many places before the last
 abbrev pub byteAt : ℕ → ℕ → ℕ
-byteAt w k = w / 2 ^ (8 * k) % 256
+byteAt w k = w / 2 ^ (8 * k) % byteSpan
 
 -- most significant first
 abbrev pub rawBytes : ℕ → List ℕ

@@ -3,8 +3,10 @@
 ghost use mathlib.Core.Path.{_≡_};
 ghost use mathlib.Core.Bool.{true};
 ghost use Prim.Native.Nat.{_+_, _*_, _-_, _^_, _<_};
+ghost use Rattle.instruction.specs.Word.{wordBytes};
 ghost use Rattle.typed.specs.Number.{between, isDigit, numberOf, sameText, capped};
-ghost use Rattle.typed.specs.Words.{isWhite, hexDigit, later, past, start, troubled, skipped, grown, onward, isPart, partedBy, digitOn, textOn, rawOn, wordBytes, byteAt, rawBytes, byteOn, CanGrow, Takes, TakesOne, troubleOf};
+ghost use Rattle.typed.specs.Words.{isWhite, hexDigit, later, past, start, troubled, skipped, grown, onward, isPart, partedBy, digitOn, textOn, rawOn, byteAt, rawBytes, byteOn, CanGrow, Takes, TakesOne, troubleOf};
+use instruction::Instruction;
 
 // ---- Texts and numbers.
 
@@ -163,17 +165,13 @@ impl Taken {
     // The values that a digit can have.
     pub const HEX: u64 = 16;
 
-    pub const BYTE: u64 = 256;
-
     // The values that a word can have before its last digit.
     pub const HEX_SPAN: u64 = 1 << 60;
 
-    pub const BYTE_SPAN: u64 = 1 << 56;
+    pub const RAW_SPAN: u64 = 1 << 56;
 
     // The digits of a word.
     pub const WORD_DIGITS: u64 = 16;
-
-    pub const WORD_BYTES: u64 = 8;
 
     pub const NO_DIGIT: u64 = 1;
 
@@ -307,8 +305,8 @@ impl Taken {
         let digits = self.digits;
         let count = self.count;
         let place = self.place;
-        let value = self.grown(Taken::BYTE_SPAN, Taken::BYTE, wide(b));
-        if digits < Taken::WORD_BYTES - 1 {
+        let value = self.grown(Taken::RAW_SPAN, Instruction::BYTE_SPAN, wide(b));
+        if digits < Instruction::BYTES - 1 {
             return Taken::onward(count, value, digits + 1, place);
         }
         if room <= count {
@@ -378,12 +376,12 @@ fn byte_at(word: u64, k: u64) -> u8
     requires { ⌜ k < wordBytes ⌝ }
     ensures { λ r. ⌜ r ≡ byteAt word k ⌝ }
 {
-    let byte = (word >> (8 * k)) % Taken::BYTE;
+    let byte = (word >> (8 * k)) % Instruction::BYTE_SPAN;
     byte as u8
 }
 
 // A word as raw bytes, most significant first.
-pub fn raw(word: u64) -> [u8; Taken::WORD_BYTES as usize]
+pub fn raw(word: u64) -> [u8; Instruction::BYTES as usize]
     ensures { λ r. ⌜ r ≡ rawBytes word ⌝ }
 {
     [

@@ -4,6 +4,11 @@ ghost use mathlib.Core.Path.{_≡_};
 ghost use Rattle.writer.specs.Writing.{askedOf, writtenOf};
 use instruction::Instruction;
 use instruction::Refusal;
+use widths::fits;
+use word::word_of;
+
+pub mod widths;
+mod word;
 
 pub struct Written {
     pub number: u64,
@@ -14,7 +19,7 @@ pub struct Written {
 fn asked(i: Instruction) -> u64
     ensures { λ r. ⌜ r ≡ askedOf i ⌝ }
 {
-    if !i.fits() {
+    if !fits(i) {
         return Refusal::TOO_WIDE;
     }
     i.form()
@@ -24,7 +29,7 @@ pub fn write(i: Instruction) -> Written
     ensures { λ r. ⌜ r ≡ writtenOf i ⌝ }
 {
     let number = asked(i);
-    let word = i.word();
+    let word = word_of(i);
     if number == 0 {
         Written { number, word }
     } else {

@@ -1,7 +1,7 @@
 -- Less than a word is left over.
 use Prim.Native.Nat.{_<_}
 use native.Mathlib.Omega.{arith}
-use Rattle.listing.specs.Listing.{wordBytes}
+use Rattle.instruction.specs.Word.{wordBytes}
 use borrow.Author.Needs.{needs}
 use Rattle.aps2_listing.proofs.left_over.Statement.{statement}
 use Rattle.aps2_listing.proofs.left_over.Tie as tie

@@ -7,7 +7,8 @@ use lib.ListN.{length}
 use Rattle.buffer.specs.Put.{Fits, Put}
 use Rattle.buffer.proofs.Laws.{fits-first, fits-next, puts-both}
 use Rattle.listing.specs.Text.{number, letters, restText, textOf}
-use Rattle.listing.specs.Listing.{wordBytes, linesFrom}
+use Rattle.instruction.specs.Word.{wordBytes}
+use Rattle.listing.specs.Listing.{linesFrom}
 use Rattle.listing.proofs.Lines.{listing-8, listing-9, listing-lines}
 use Rattle.listing.proofs.Room.{listing-short}
 use borrow.Author.Needs.{needs}

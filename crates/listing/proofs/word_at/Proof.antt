@@ -2,7 +2,8 @@
 use Prim.Native.Nat.{ℕ, _+_, _*_, _-_, _^_, _≤_, _<_}
 use mathlib.Core.Path.{_≡_, refl, ap, ap₂, sym, _∙_}
 use native.Mathlib.Omega.{arith}
-use Rattle.listing.specs.Listing.{wordBytes, bigEndian}
+use Rattle.instruction.specs.Word.{wordBytes}
+use Rattle.listing.specs.Listing.{bigEndian}
 use Rattle.listing.proofs.Lines.{byte-grows, byte-room}
 use borrow.Author.Needs.{needs}
 use native.Mathlib.Numerals.{add-one}

@@ -8,13 +8,13 @@ use Rattle.writer.proofs.write.Tie as tie
 asked-requires : tie.Need-asked-requires
 asked-requires c κs = search needs
 
-word-requires : tie.Need-word-requires
-word-requires c κs = search needs
+word-of-requires : tie.Need-word-of-requires
+word-of-requires c κs = search needs
 
 returns : tie.Need-returns
 returns c =
     let asked = c .before .before .asked .ensures in
-    rw (c .before .word .ensures, asked) (sym (written-good _ (sym asked ∙ c .if1 .taken)))
+    rw (c .before .word-of .ensures, asked) (sym (written-good _ (sym asked ∙ c .if1 .taken)))
 
 returns-2 : tie.Need-returns-2
 returns-2 c =
@@ -22,4 +22,4 @@ returns-2 c =
     rw asked (sym (written-bad _ (λ e. c .if1 .left (asked ∙ e))))
 
 pub write-spec : {M : Type 1} → statement M
-write-spec = tie.close (tie.spec asked-requires word-requires returns returns-2)
+write-spec = tie.close (tie.spec asked-requires word-of-requires returns returns-2)
