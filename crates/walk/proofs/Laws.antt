@@ -14,7 +14,7 @@ use borrow.Author.Tests.{eqb-true, eqb-false}
 use lib.ListN.{length, getD, set, length-set}
 use lib.Seq.{getD-set-same, getD-set-other}
 use lib.Bits.{bitOr, or-add-and, and-le-r}
-use Rattle.instruction.specs.Bits.{pick, _gives_else_}
+use Rattle.instruction.specs.Bits.{_gives_else_}
 use Rattle.instruction.specs.declared.WordAddress.{WordAddress}
 use Rattle.flow.specs.declared.Move.{Move}
 use Rattle.flow.specs.declared.Move.the-variants.{Other, Compare, Jump, Enter, Leave, Loop}
@@ -24,7 +24,7 @@ use Rattle.flow.specs.Move.{moveAt}
 use Rattle.flow.specs.Walk.{deepest, On, place, Reached, start}
 use Rattle.flow.proofs.Rules.{Onward, plain-on, cmp-on, goto-on, call-on, return-on, repeat-on, Leaps, goto-to, call-to, repeat-to, Walked, begin, on, over, back, walked, reached}
 use Rattle.flow.proofs.Bits.{or-left, or-right, or-on, zero-off, high-off, on-bare, bare-on, bare-odd, next-on, back-on, jump-on, Came, stepped, returned, on-next, Leapt, leapt, on-jump}
-use Rattle.walk.specs.Marks.{Depths, faultIn, FirstFault, Settled, Exact, Sound, Backs, left, rest, HoldsAt, Put, same, more, Grew, ClosedAt, Turned, moved, still, Tells, holds, fails, backIn, Returns, Cleared, Part, Ahead, Visits, VisitDone, TurnIs, onward, hint, ended, Room, NoteDone, FollowDone, Since, fresh, since, AtHand, OpenIs, closed, first, load}
+use Rattle.walk.specs.Marks.{Depths, faultIn, CleanAt, UncleanIs, FirstFault, Settled, Exact, Sound, Backs, left, rest, HoldsAt, Put, same, more, Grew, ClosedAt, Turned, moved, still, Tells, holds, fails, backIn, Returns, Cleared, Part, Ahead, Visits, VisitDone, TurnIs, onward, hint, ended, Room, NoteDone, FollowDone, Since, fresh, since, AtHand, OpenIs, closed, first, load}
 use Rattle.walk.specs.declared.Trail.{Trail}
 use Rattle.sequence.specs.Bounds.{wordLimit}
 
@@ -434,6 +434,9 @@ module _ (lim : ℕ) (ws : List ℕ) (r : ℕ) (ms : List ℕ) (a : ℕ) (o : Mo
         subst (λ (z : ℕ). HoldsAt (length ws) ms (f .to) z) (sym jump) (subst (λ (z : ℕ). HoldsAt (length ws) ms z (jumpOf lim (moveAt ws a) m)) (sym target) (k .jump)),
       )
 
+  pub tells-all : {c d : Bool} → Tells (bitOr r (backIn o (getD ms a 0)) ≡ r) c → Tells (HoldsAt (length ws) ms (a + 1) (f .next) × HoldsAt (length ws) ms (f .to) (f .jump)) d → Tells (ClosedAt lim ws r ms a) (c && d)
+  tells-all t u = tells-parts (tells-as (λ h. (h .0, h .1 .0, h .1 .1)) (λ p. (p .0, (p .1, p .2))) (tells-and t u))
+
   no-depth : backIn o (getD ms a 0) ≡ 0 → bitOr r (backIn o (getD ms a 0)) ≡ r
   no-depth z = ap (bitOr r) z ∙ or-zero r
 
@@ -467,9 +470,10 @@ tells-plain lim ws r ms a e u = tells-as to from u
     from : ClosedAt lim ws r ms a → HoldsAt (length ws) ms (a + 1) (getD ms a 0)
     from k = subst (λ (z : Move). HoldsAt (length ws) ms (a + 1) (nextOf z (getD ms a 0) r)) e (k .next)
 
-pub closed-more : (lim : ℕ) (ws : List ℕ) (r : ℕ) (ms : List ℕ) (a : ℕ) → ((k : ℕ) → k < a → ClosedAt lim ws r ms k) → ClosedAt lim ws r ms a → (k : ℕ) → k < a + 1 → ClosedAt lim ws r ms k
-closed-more lim ws r ms a all here k l =
-    ⊎-elim (λ e. subst (λ (z : ℕ). ClosedAt lim ws r ms z) (sym e) here) (λ h. all k h) (eq-or-lt-of-le (le-of-suc-le-suc (subst (λ (z : ℕ). k < z) (add-one a) l)))
+-- what holds below an address and at it holds below the next
+pub below-more : (P : ℕ → Type 0) (a : ℕ) → ((k : ℕ) → k < a → P k) → P a → (k : ℕ) → k < a + 1 → P k
+below-more P a all here k l =
+    ⊎-elim (λ e. subst P (sym e) here) (λ h. all k h) (eq-or-lt-of-le (le-of-suc-le-suc (subst (λ (z : ℕ). k < z) (add-one a) l)))
 
 -- ---- following
 
@@ -543,58 +547,26 @@ settled lim ws r ms₀ ms t s b bs ds long tail (closed k h) l =
     record { marked = record { long = long; exact = ex; tail = tail }; returns = known-returns lim ws r ms ex bs k; depths = ds; fault = h }
 settled lim ws r ms₀ ms t s b bs ds long tail (first h o) l = absurd (omega arith)
 
--- ---- the first fault
+-- ---- faults
 
--- a number that is given by a test is one
-pub given-31 : (t : Bool) → t ≡ not (eqb (t gives 31 else 0) 0)
-given-31 true = refl
-given-31 false = refl
-
-pub given-32 : (t : Bool) → t ≡ not (eqb (t gives 32 else 0) 0)
-given-32 true = refl
-given-32 false = refl
-
-pub fault-none : (lim : ℕ) (ws ms : List ℕ) → FirstFault lim ws ms 0 (length ws)
-fault-none lim ws ms = record { low = le-refl _; none = λ b l h. absurd (omega arith); here = λ l. absurd (omega arith) }
-
-pub fault-more : (lim : ℕ) (ws ms : List ℕ) (a f : ℕ) (t : Bool) → FirstFault lim ws ms a f → a < length ws → t ≡ not (eqb (faultIn lim (moveAt ws a) (getD ms a 0)) 0) → FirstFault lim ws ms (a + 1) (pick (t && eqb f (length ws)) a f)
-fault-more lim ws ms a f t g l e = go t e (eqb f (length ws)) refl
+-- a number that a test gives is 0 where it does not
+pub spared : (x n : ℕ) → (n ≡ 0 → ⊥) → Tells ((not (eqb x 0) gives n else 0) ≡ 0) (eqb x 0)
+spared x n some = go (eqb x 0)
   where
-    x : ℕ
-    x = faultIn lim (moveAt ws a) (getD ms a 0)
+    go : (b : Bool) → Tells ((not b gives n else 0) ≡ 0) b
+    go true = holds refl
+    go false = fails some
 
-    is : (b : Bool) → eqb x 0 ≡ b → false ≡ not b → x ≡ 0
-    is true q h = eqb-true x 0 q
-    is false q h = let z : _≡_ {A = ℕ} 0 1 = cc in absurd (omega arith)
+-- an address is clean where it is closed and has no fault
+pub tells-clean : {lim : ℕ} {ws : List ℕ} {r : ℕ} {ms : List ℕ} {a : ℕ} {c d : Bool} → Tells (ClosedAt lim ws r ms a) c → Tells (faultIn lim (moveAt ws a) (getD ms a 0) ≡ 0) d → Tells (CleanAt lim ws r ms a) (c && d)
+tells-clean t u = tells-as (λ p. record { closed = p .0; good = p .1 }) (λ k. (k .closed, k .good)) (tells-and t u)
 
-    isnt : (b : Bool) → eqb x 0 ≡ b → true ≡ not b → x ≡ 0 → ⊥
-    isnt true q h = let z : _≡_ {A = ℕ} 0 1 = cc in absurd (omega arith)
-    isnt false q h = eqb-false x 0 q
+pub tells-good : {lim : ℕ} {ws : List ℕ} {r : ℕ} {ms : List ℕ} {a : ℕ} {c : Bool} → Tells (ClosedAt lim ws r ms a) c → faultIn lim (moveAt ws a) (getD ms a 0) ≡ 0 → Tells (CleanAt lim ws r ms a) c
+tells-good t e = tells-as (λ k. record { closed = k; good = e }) (λ k. k .closed) t
 
-    kept : (f < length ws) → (f < a + 1) × (faultIn lim (moveAt ws f) (getD ms f 0) ≡ 0 → ⊥)
-    kept h = let w = g .here h in let k : f < a = w .0 in (omega arith, w .1)
-
-    below : (b : ℕ) → (b ≡ a → ⊥) → b < a + 1 → b < f → faultIn lim (moveAt ws b) (getD ms b 0) ≡ 0
-    below b n h k = g .none b (omega arith) k
-
-    go : (t : Bool) → t ≡ not (eqb x 0) → (c : Bool) → eqb f (length ws) ≡ c → FirstFault lim ws ms (a + 1) (pick (t && c) a f)
-    go true q true c =
-        let z = eqb-true f (length ws) c in
-        record { low = omega arith; none = λ b h k. g .none b k (omega arith); here = λ h. (omega arith, isnt (eqb x 0) refl q) }
-    go true q false c =
-        let z = eqb-false f (length ws) c in
-        let low = g .low in
-        let w : f < length ws = omega arith in
-        let v : f < a = g .here w .0 in
-        record { low = low; none = λ b h k. g .none b (omega arith) k; here = kept }
-    go false q c d = record { low = g .low; none = none; here = kept }
-      where
-        none : (b : ℕ) → b < a + 1 → b < f → faultIn lim (moveAt ws b) (getD ms b 0) ≡ 0
-        none b h k = by (ℕ-discrete b a)
-          where
-            by : Dec (b ≡ a) → faultIn lim (moveAt ws b) (getD ms b 0) ≡ 0
-            by (yes r) = ap (λ (n : ℕ). faultIn lim (moveAt ws n) (getD ms n 0)) r ∙ is (eqb x 0) refl q
-            by (no n) = below b n h k
+-- where all is closed, an address that is not clean faults
+pub unclean-fault : (lim : ℕ) (ws : List ℕ) (r : ℕ) (ms : List ℕ) (f : ℕ) → UncleanIs lim ws r ms f → ((k : ℕ) → k < length ws → ClosedAt lim ws r ms k) → FirstFault lim ws ms (length ws) f
+unclean-fault lim ws r ms f u all = record { low = u .low; none = λ b l h. u .clean b h .good; here = λ l. (l, λ z. u .here l (record { closed = all f l; good = z })) }
 
 -- ---- the start
 

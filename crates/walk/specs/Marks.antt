@@ -181,6 +181,17 @@ faultIn lim (Enter t) m = not (eqb (m / 2 ^ (2 * lim) % 4) 0) gives 31 else 0
 faultIn lim Leave m = not (eqb (m % 4) 0) gives 32 else 0
 faultIn lim (Loop t) m = 0
 
+-- address a is closed, and its mark has no fault
+pub record CleanAt (lim : ℕ) (ws : List ℕ) (r : ℕ) (ms : List ℕ) (a : ℕ) : Type 0 where
+  pub closed : ClosedAt lim ws r ms a
+  pub good : faultIn lim (moveAt ws a) (getD ms a 0) ≡ 0
+
+-- the first address that is not clean, or the words' end
+pub record UncleanIs (lim : ℕ) (ws : List ℕ) (r : ℕ) (ms : List ℕ) (f : ℕ) : Type 0 where
+  pub low : f ≤ length ws
+  pub clean : (k : ℕ) → k < f → CleanAt lim ws r ms k
+  pub here : f < length ws → CleanAt lim ws r ms f → ⊥
+
 -- the first address below k at which a mark has a fault, or the words' end
 pub record FirstFault (lim : ℕ) (ws ms : List ℕ) (k f : ℕ) : Type 0 where
   pub low : f ≤ length ws

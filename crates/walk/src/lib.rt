@@ -2,15 +2,11 @@
 // Hints say which addresses are worth a visit and carry no promise: a last look at every address proves that nothing is missing.
 ghost use mathlib.Core.Path.{_≡_};
 ghost use Prim.Native.Nat.{_+_, _≤_, _<_};
-ghost use mathlib.Core.Bool.{not, _&&_};
-ghost use lib.Dec.{eqb};
 ghost use lib.ListN.{length};
-ghost use Rattle.instruction.specs.Bits.{pick};
-ghost use Rattle.instruction.specs.Word.{spelledBy};
-ghost use Rattle.flow.specs.Move.{moveOf};
+ghost use lib.Bits.{bitOr};
 ghost use Rattle.flow.specs.Walk.{deepest};
 ghost use Rattle.sequence.specs.Bounds.{wordLimit};
-ghost use Rattle.walk.specs.Marks.{faultIn, Cleared, Fits, Room, NoteDone, Put, LeapDone, CanVisit, VisitDone, TurnIs, FollowDone, Tells, HoldsAt, ClosedAt, OpenIs, CanSettle, Settled};
+ghost use Rattle.walk.specs.Marks.{faultIn, Cleared, Fits, Room, NoteDone, Put, LeapDone, CanVisit, VisitDone, TurnIs, FollowDone, Tells, HoldsAt, backIn, ClosedAt, CleanAt, UncleanIs, OpenIs, CanSettle, Settled};
 use flow::Mark;
 use flow::Move;
 use flow::Moves;
@@ -230,6 +226,17 @@ fn put(n: usize, marks: &mut [u64], at: usize, x: u64) -> u64
     new
 }
 
+// Bits put at a target, where there are any: its mark where that set one, else 0.
+fn put_there(n: usize, marks: &mut [u64], to: usize, x: u64) -> u64
+    requires { ⌜ n ≤ length (now marks) ⌝ }
+    ensures { λ r. ⌜ Put n (now (marks .entry)) to x (now (marks .exit)) r ⌝ }
+{
+    if x == 0 {
+        return 0;
+    }
+    put(n, marks, to, x)
+}
+
 // Bits put at a target, with a hint where that set one.
 fn leap(
     n: usize,
@@ -243,7 +250,7 @@ fn leap(
     requires { ⌜ (n ≤ length (now marks)) × (len ≤ wordLimit) ⌝ }
     ensures { λ r. ⌜ LeapDone n (now (marks .entry)) len at x (now (marks .exit)) r ⌝ }
 {
-    if put(n, marks, at, x) == 0 {
+    if put_there(n, marks, at, x) == 0 {
         return len;
     }
     push(stack, known, len, at)
@@ -271,7 +278,7 @@ fn branch(
     let to = f.to as usize;
     let mark = put(n, marks, next, f.next);
     if mark == 0 {
-        let there = put(n, marks, to, f.jump);
+        let there = put_there(n, marks, to, f.jump);
         return Trail {
             hints: t.hints,
             calls: t.calls,
@@ -423,10 +430,36 @@ fn both_hold(n: usize, marks: &[u64], a: usize, f: Moves) -> bool
     holds(n, marks, a + 1, f.next) & holds(n, marks, to, f.jump)
 }
 
+// Whether the depths of a RETURN are known; any other word has none to know.
+fn knows(o: Move, m: u64, back: u64) -> bool
+    ensures { λ r. ⌜ Tells (bitOr back (backIn o m) ≡ back) r ⌝ }
+{
+    match o {
+        Move::Other => true,
+        Move::Compare => true,
+        Move::Jump(_) => true,
+        Move::Enter(_) => true,
+        Move::Leave => (back | Mark::bare(m)) == back,
+        Move::Loop(_) => true,
+    }
+}
+
 // Whether all that an address leads to is marked.
 fn is_closed(words: &[u64], marks: &[u64], a: usize, back: u64, limit: u64) -> bool
     requires { ⌜ Fits (now words) (now marks) 0 limit × (a < length (now words)) ⌝ }
     ensures { λ r. ⌜ Tells (ClosedAt limit (now (words .entry)) back (now (marks .entry)) a) r ⌝ }
+{
+    let word = words[a];
+    let m = marks[a];
+    let o = Move::at(word);
+    let f = Moves::of(o, m, back, limit);
+    knows(o, m, back) & both_hold(words.len(), marks, a, f)
+}
+
+// Whether all that an address leads to is marked, and its word does not fault.
+fn is_clean(words: &[u64], marks: &[u64], a: usize, back: u64, limit: u64) -> bool
+    requires { ⌜ Fits (now words) (now marks) 0 limit × (a < length (now words)) ⌝ }
+    ensures { λ r. ⌜ Tells (CleanAt limit (now (words .entry)) back (now (marks .entry)) a) r ⌝ }
 {
     let n = words.len();
     let word = words[a];
@@ -440,8 +473,10 @@ fn is_closed(words: &[u64], marks: &[u64], a: usize, back: u64, limit: u64) -> b
         Move::Other => holds(n, marks, a + 1, f.next),
         Move::Compare => holds(n, marks, a + 1, f.next),
         Move::Jump(_) => both_hold(n, marks, a, f),
-        Move::Enter(_) => both_hold(n, marks, a, f),
-        Move::Leave => holds(n, marks, a + 1, f.next) & ((back | Mark::bare(m)) == back),
+        Move::Enter(_) => both_hold(n, marks, a, f) & (m / Mark::at(limit) % 4 == 0),
+        Move::Leave => holds(n, marks, a + 1, f.next)
+            & ((back | Mark::bare(m)) == back)
+            & (m % 4 == 0),
         Move::Loop(_) => both_hold(n, marks, a, f),
     }
 }
@@ -466,45 +501,34 @@ pub fn fault_of(o: Move, m: u64, limit: u64) -> u64
     }
 }
 
-// Whether a word faults at its mark.
-fn faults(word: u64, m: u64, limit: u64) -> bool
-    requires { ⌜ limit ≤ deepest ⌝ }
-    ensures { λ r. ⌜ r ≡ not (eqb (faultIn limit (moveOf (spelledBy word .body)) m) 0) ⌝ }
+// The first address that leads to what is not marked or that faults, or n.
+fn first_unclean(words: &[u64], marks: &[u64], back: u64, limit: u64) -> usize
+    requires { ⌜ Fits (now words) (now marks) 0 limit ⌝ }
+    ensures { λ r. ⌜ UncleanIs limit (now (words .entry)) back (now (marks .entry)) r ⌝ }
 {
-    if Move::goes_on(word) {
-        return false;
+    let n = words.len();
+    let mut a: usize = 0;
+    while a < n {
+        if !is_clean(words, marks, a, back, limit) {
+            return a;
+        }
+        a += 1;
     }
-    let o = Move::at(word);
-    match o {
-        Move::Other => false,
-        Move::Compare => false,
-        Move::Jump(_) => false,
-        Move::Enter(_) => m / Mark::at(limit) % 4 != 0,
-        Move::Leave => m % 4 != 0,
-        Move::Loop(_) => false,
-    }
+    a
 }
 
-// Of two addresses the one that faults first, where one below n is known or not.
-fn first_fault(n: usize, faulty: usize, a: usize, faults: bool) -> usize
-    ensures { λ r. ⌜ r ≡ pick (faults && eqb faulty n) a faulty ⌝ }
-{
-    if faults & (faulty == n) { a } else { faulty }
-}
-
-// A look at every address: the first that leads to what is not marked, or n; and below it the first that faults, or n.
+// A look at every address: the first that leads to what is not marked, or n; and where that is n, the first that faults, or n.
 fn look_over(words: &[u64], marks: &[u64], back: u64, limit: u64) -> Look
     requires { ⌜ Fits (now words) (now marks) 0 limit ⌝ }
     ensures { λ r. ⌜ OpenIs limit (now (words .entry)) back (now (marks .entry)) (r .open) (r .faulty) ⌝ }
 {
     let n = words.len();
-    let mut a: usize = 0;
-    let mut faulty: usize = n;
+    let faulty = first_unclean(words, marks, back, limit);
+    let mut a: usize = faulty;
     while a < n {
         if !is_closed(words, marks, a, back, limit) {
             return Look { open: a, faulty };
         }
-        faulty = first_fault(n, faulty, a, faults(words[a], marks[a], limit));
         a += 1;
     }
     Look { open: a, faulty }
@@ -525,15 +549,9 @@ fn settle(words: &[u64], marks: &mut [u64], limit: u64) -> Seen
         at: 0,
         mark: 0,
     };
-    loop {
-        let l = look_over(words, marks, s.back, limit);
+    let mut l = look_over(words, marks, s.back, limit);
+    while l.open < words.len() {
         let a = l.open;
-        if words.len() <= a {
-            return Seen {
-                back: s.back,
-                faulty: l.faulty,
-            };
-        }
         let mark = marks[a];
         let mut from = s;
         from.at = a;
@@ -547,6 +565,11 @@ fn settle(words: &[u64], marks: &mut [u64], limit: u64) -> Seen
             from,
             limit,
         );
+        l = look_over(words, marks, s.back, limit);
+    }
+    Seen {
+        back: s.back,
+        faulty: l.faulty,
     }
 }
 

@@ -33,8 +33,8 @@ of-requires c κs = search needs
 put-requires : tie.Need-put-requires
 put-requires c κs = search needs
 
-put-requires-2 : tie.Need-put-requires-2
-put-requires-2 c κs = search needs
+put-there-requires : tie.Need-put-there-requires
+put-there-requires c κs = search needs
 
 same-length : tie.Need-same-length
 same-length c = search needs
@@ -50,8 +50,8 @@ returns c =
     let h = s .s in
     let p = c .before .before .before .before .before .before .before .put .ensures in
     let less : left (c .before .before .before .before .before .before .before .put .last .1 .0) ≤ left ms = put-less (length (s .words .now)) ms _ _ p in
-    let j = c .before .before .put2 .ensures in
-    let less′ : left (c .before .before .put2 .last .1 .0) ≤ left (c .before .before .before .before .before .before .before .put .last .1 .0) = put-less (length (s .words .now)) _ _ _ j in
+    let j = c .before .before .put-there .ensures in
+    let less′ : left (c .before .before .put-there .last .1 .0) ≤ left (c .before .before .before .before .before .before .before .put .last .1 .0) = put-less (length (s .words .now)) _ _ _ j in
     let w =
     visit-law (s .limit) (s .words .now) (h .back) ms (h .at) (h .mark) (t .result .back) (f .result .next) (f .result .jump) (f .result .to) (pre .marks) (pre .hand .below) (pre .hand .part) (t .ensures .rose)
     (t .ensures .back ∙ ap (λ (z : Move). bitOr (h .back) (backIn z (h .mark))) o)
@@ -101,7 +101,7 @@ branch-spec =
     note-requires
     of-requires
     put-requires
-    put-requires-2
+    put-there-requires
     same-length
     returns
     leap-requires
