@@ -427,7 +427,10 @@ fn both_hold(n: usize, marks: &[u64], a: usize, f: Moves) -> bool
     ensures { λ r. ⌜ Tells (HoldsAt n (now (marks .entry)) (a + 1) (f .next) × HoldsAt n (now (marks .entry)) (f .to) (f .jump)) r ⌝ }
 {
     let to = f.to as usize;
-    holds(n, marks, a + 1, f.next) & holds(n, marks, to, f.jump)
+    if !holds(n, marks, a + 1, f.next) {
+        return false;
+    }
+    holds(n, marks, to, f.jump)
 }
 
 // Whether the depths of a RETURN are known; any other word has none to know.
