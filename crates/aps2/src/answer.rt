@@ -106,7 +106,8 @@ fn rehearse_in_room(words: &[u64], messages: &[u8], trace: &mut [u64], asked: As
 
 pub fn run(words: &[u64], asked: Asked) {
     let mut messages = io::large_buffer();
-    let heard = messages_of(asked.messages, &mut messages);
+    let mut numbers = space::for_words();
+    let heard = messages_of(asked.messages, &mut numbers, &mut messages);
     let n = heard.count;
     if !heard.good {
         told::ends(told::NO_ANSWER, 0);

@@ -6,7 +6,7 @@ ghost use Rattle.request.specs.Room.{mostRoom};
 use request::asked::Asked;
 use sequence::Sequence;
 
-// For the words of a sequence, or its marks.
+// For the words of a sequence, its marks, or the messages of a run.
 pub fn for_words() -> [u64; Sequence::WORDS as usize]
     ensures { λ r. ⌜ wordLimit ≡ length r ⌝ }
 {

@@ -1,4 +1,5 @@
-// All that a run left, by name.
+// All that a run left, by name: a line for each number of its state,
+// with the entries of the stack and the counts of the engines set in.
 use crate::told::say;
 use crate::told::say_number;
 use crate::told::say_pair;

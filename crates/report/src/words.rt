@@ -1,4 +1,5 @@
 // Words as lines of the listing.
+// A place is told with the word that stands there, and a long trace is cut.
 use crate::told::say;
 use crate::told::say_number;
 use crate::told::say_pair;

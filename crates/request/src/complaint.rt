@@ -1,4 +1,5 @@
 // Why there is no answer, on standard error.
+// Each sentence begins with the name of the command, so that it stands apart where others write there too.
 use libc::STDERR_FILENO;
 
 pub fn complain(text: &[u8]) {

@@ -13,12 +13,13 @@ use lib.Dec.{leb, ltb, eqb}
 use lib.ListN.{length, drop, getD}
 use lib.Seq.{drop-cons}
 use Rattle.instruction.specs.Bits.{pick}
+use Rattle.instruction.specs.Word.{byteSpan}
 use Rattle.buffer.specs.Put.{put}
 use Rattle.buffer.proofs.Laws.{put-none, put-put, length-put}
 use Rattle.typed.specs.Number.{between, isDigit}
-use Rattle.typed.specs.Words.{isWhite, lineFeed, hash, troubled, skipped, grown, CanGrow, hexDigit, past, isPart, wordDigits, partedBy, digitOn, textOn, rawOn, spelledOn, byteOn, newWord, takenOf, wordsOf, Takes, TakesOne}
+use Rattle.typed.specs.Words.{isWhite, lineFeed, hash, troubled, skipped, grown, CanGrow, hexDigit, past, isPart, wordDigits, partedBy, digitOn, textOn, rawOn, comma, decimalGrown, decimalOn, spelledOn, byteOn, newWord, takenOf, wordsOf, Takes, TakesOne}
 use Rattle.typed.specs.declared.Spelling.{Spelling}
-use Rattle.typed.specs.declared.Spelling.the-variants.{Hex, Raw}
+use Rattle.typed.specs.declared.Spelling.the-variants.{Hex, Raw, Decimal}
 use Rattle.typed.specs.declared.Taken.{Taken}
 use Rattle.typed.proofs.Numbers.{in-between, ended}
 
@@ -119,9 +120,19 @@ module _ (room b : ℕ) (s : Taken) where
       either (Counts room s) (ltb (s .digits) 7) (inl refl)
       (unless (Counts room s) (leb room (s .count)) (inl refl) (λ e. inr (refl, leb-false room (s .count) e)))
 
+  decimal-counts : Counts room s (decimalOn room b s)
+  decimal-counts =
+      either (Counts room s) (eqb b comma)
+      (either (Counts room s) (eqb (s .digits) 0) (inl refl)
+      (unless (Counts room s) (leb room (s .count)) (inl refl) (λ e. inr (refl, leb-false room (s .count) e))))
+      (either (Counts room s) (isDigit b)
+      (either (Counts room s) (leb byteSpan (decimalGrown b s)) (inl refl) (inl refl))
+      (inl refl))
+
   spelled-counts : (spelling : Spelling) → Counts room s (spelledOn spelling room b s)
   spelled-counts Hex = text-counts
   spelled-counts Raw = raw-counts
+  spelled-counts Decimal = decimal-counts
 
   pub byte-counts : (spelling : Spelling) → Counts room s (byteOn spelling room b s)
   byte-counts spelling = either (Counts room s) (eqb (s .trouble) 0) (spelled-counts spelling) (inl refl)

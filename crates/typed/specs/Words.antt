@@ -1,5 +1,5 @@
--- Words as they come in, byte by byte: as hexadecimal text, or raw, eight bytes each, most significant first.
--- Text: words of sixteen digits, parted by white space; # to the end of a line is a comment.
+-- Words as they come in, byte by byte: as hexadecimal text, or raw, eight bytes each, most significant first; and numbers of a byte in decimal.
+-- Text: words of sixteen digits, parted by white space; # to the end of a line is a comment. Decimal: each number has a comma behind it.
 use Prim.Native.Nat.{ℕ, zero, suc, _+_, _*_, _-_, _/_, _%_, _^_, _≤_, _<_}
 use mathlib.Core.Path.{_≡_}
 use mathlib.Core.Bool.{Bool, false, not, _&&_, _||_}
@@ -11,7 +11,7 @@ use Rattle.instruction.specs.Word.{wordBytes, byteSpan}
 use Rattle.buffer.specs.Put.{put}
 use Rattle.typed.specs.Number.{between, isDigit}
 use Rattle.typed.specs.declared.Spelling.{Spelling}
-use Rattle.typed.specs.declared.Spelling.the-variants.{Hex, Raw}
+use Rattle.typed.specs.declared.Spelling.the-variants.{Hex, Raw, Decimal}
 use Rattle.typed.specs.declared.Place.{Place}
 use Rattle.typed.specs.declared.Taken.{Taken}
 
@@ -23,6 +23,10 @@ lineFeed = 10
 -- "#"
 abbrev pub hash : ℕ
 hash = 35
+
+-- ","
+abbrev pub comma : ℕ
+comma = 44
 
 -- a space, or tab, line feed, vertical tab, form feed, carriage return
 abbrev pub isWhite : ℕ → Bool
@@ -63,6 +67,9 @@ hexGrown d s = grown (2 ^ 60) 16 d s
 abbrev pub rawGrown : ℕ → Taken → ℕ
 rawGrown d s = grown (2 ^ 56) byteSpan d s
 
+abbrev pub decimalGrown : ℕ → Taken → ℕ
+decimalGrown b s = grown byteSpan 10 (b - 48) s
+
 -- a digit more, of a word that goes on or is whole
 abbrev pub onward : ℕ → ℕ → ℕ → Place → Taken
 onward count value digits p = record { count = count; value = value; digits = digits; place = p; comment = false; trouble = 0 }
@@ -101,11 +108,27 @@ rawOn room b s =
     pick (ltb (s .digits) (wordBytes - 1)) (onward (s .count) (rawGrown b s) (s .digits + 1) (s .place))
     (pick (leb room (s .count)) (troubled 4 s) (onward (s .count + 1) (rawGrown b s) 0 (s .place)))
 
+-- ---- one byte of decimal numbers
+
+-- a number of no digits is none; and there is room for so many
+abbrev pub closedOn : ℕ → ℕ → Taken → Taken
+closedOn room b s =
+    pick (eqb (s .digits) 0) (troubled 2 s)
+    (pick (leb room (s .count)) (troubled 4 s) (onward (s .count + 1) (s .value) 0 (past b (s .place))))
+
+-- nor is one a number that no byte has
+abbrev pub decimalDigitOn : ℕ → Taken → Taken
+decimalDigitOn b s = pick (leb byteSpan (decimalGrown b s)) (troubled 3 s) (onward (s .count) (decimalGrown b s) 1 (past b (s .place)))
+
+abbrev pub decimalOn : ℕ → ℕ → Taken → Taken
+decimalOn room b s = pick (eqb b comma) (closedOn room b s) (pick (isDigit b) (decimalDigitOn b s) (troubled 1 s))
+
 -- ---- bytes
 
 abbrev pub spelledOn : Spelling → ℕ → ℕ → Taken → Taken
 spelledOn Hex room b s = textOn room b s
 spelledOn Raw room b s = rawOn room b s
+spelledOn Decimal room b s = decimalOn room b s
 
 -- after trouble nothing is read any more
 abbrev pub byteOn : Spelling → ℕ → ℕ → Taken → Taken
@@ -145,6 +168,7 @@ pub record Takes (spelling : Spelling) (s : Taken) (text before after : List ℕ
 abbrev pub endTrouble : Spelling → Taken → ℕ
 endTrouble Hex s = isPart s gives 2 else 0
 endTrouble Raw s = not (eqb (s .digits) 0) gives 5 else 0
+endTrouble Decimal s = not (eqb (s .digits) 0) gives 5 else 0
 
 abbrev pub troubleOf : Spelling → Taken → ℕ
 troubleOf spelling s = pick (eqb (s .trouble) 0) (endTrouble spelling s) (s .trouble)

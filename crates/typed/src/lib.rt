@@ -5,7 +5,7 @@ ghost use mathlib.Core.Bool.{true};
 ghost use Prim.Native.Nat.{_+_, _*_, _-_, _^_, _<_};
 ghost use Rattle.instruction.specs.Word.{wordBytes};
 ghost use Rattle.typed.specs.Number.{between, isDigit, numberOf, sameText, capped};
-ghost use Rattle.typed.specs.Words.{isWhite, hexDigit, later, past, start, troubled, skipped, grown, onward, isPart, partedBy, digitOn, textOn, rawOn, byteAt, rawBytes, byteOn, CanGrow, Takes, TakesOne, troubleOf};
+ghost use Rattle.typed.specs.Words.{isWhite, hexDigit, later, past, start, troubled, skipped, grown, onward, isPart, partedBy, digitOn, textOn, rawOn, closedOn, decimalDigitOn, decimalOn, byteAt, rawBytes, byteOn, CanGrow, Takes, TakesOne, troubleOf};
 use instruction::Instruction;
 
 // ---- Texts and numbers.
@@ -83,9 +83,11 @@ pub fn same(a: &[u8], b: &[u8]) -> bool
 
 // ---- Words.
 
+// Words as hexadecimal text or raw, or numbers of a byte in decimal, each with a comma behind it.
 pub enum Spelling {
     Hex,
     Raw,
+    Decimal,
 }
 
 // Where a byte of a text stands; both are counted from 1.
@@ -315,6 +317,48 @@ impl Taken {
         Taken::onward(count + 1, value, 0, place)
     }
 
+    // A number of no digits is none; and there is room for so many.
+    fn closed_on(self, room: u64, b: u8) -> Taken
+        ensures { λ r. ⌜ r ≡ closedOn room b self ⌝ }
+    {
+        let count = self.count;
+        let place = self.place;
+        if self.digits == 0 {
+            return self.troubled(Taken::FEW_DIGITS);
+        }
+        if room <= count {
+            return self.troubled(Taken::MANY_WORDS);
+        }
+        Taken::onward(count + 1, self.value, 0, place.past(b))
+    }
+
+    // Nor is one a number that no byte has.
+    fn decimal_digit_on(self, b: u8) -> Taken
+        requires { ⌜ isDigit b ≡ true ⌝ }
+        ensures { λ r. ⌜ r ≡ decimalDigitOn b self ⌝ }
+    {
+        let d = b - b'0';
+        let place = self.place;
+        let value = self.grown(Instruction::BYTE_SPAN, Amount::BASE, d as u64);
+        if Instruction::BYTE_SPAN <= value {
+            return self.troubled(Taken::MANY_DIGITS);
+        }
+        Taken::onward(self.count, value, 1, place.past(b))
+    }
+
+    // One byte of decimal numbers.
+    fn decimal_on(self, room: u64, b: u8) -> Taken
+        ensures { λ r. ⌜ r ≡ decimalOn room b self ⌝ }
+    {
+        if b == b',' {
+            return self.closed_on(room, b);
+        }
+        if between(b'0', b'9', b) {
+            return self.decimal_digit_on(b);
+        }
+        self.troubled(Taken::NO_DIGIT)
+    }
+
     // One byte; after trouble nothing is read any more.
     fn byte_on(self, spelling: Spelling, room: u64, b: u8) -> Taken
         ensures { λ r. ⌜ r ≡ byteOn spelling room b self ⌝ }
@@ -325,6 +369,7 @@ impl Taken {
         match spelling {
             Spelling::Hex => self.text_on(room, b),
             Spelling::Raw => self.raw_on(room, b),
+            Spelling::Decimal => self.decimal_on(room, b),
         }
     }
 
@@ -338,6 +383,11 @@ impl Taken {
         match spelling {
             Spelling::Hex => if self.is_part() { Taken::FEW_DIGITS } else { 0 },
             Spelling::Raw => if self.digits != 0 {
+                Taken::NOT_WHOLE
+            } else {
+                0
+            },
+            Spelling::Decimal => if self.digits != 0 {
                 Taken::NOT_WHOLE
             } else {
                 0

@@ -1,4 +1,5 @@
 // What is asked for against the widths of its fields: 23 is given for a field too wide for its bits.
+// Of what RETURN and LOAD_CMP ignore nothing but zero may be asked for.
 ghost use mathlib.Core.Path.{_≡_};
 ghost use mathlib.Core.List.{[], _∷_};
 ghost use Rattle.instruction.specs.Bits.{allFit};

@@ -1,4 +1,5 @@
 // The word of an instruction: each field laid into its place, cut to its width.
+// Fields do not meet, so what is laid is their sum.
 ghost use mathlib.Core.Path.{_≡_};
 ghost use mathlib.Core.List.{[], _∷_};
 ghost use Prim.Native.Nat.{_+_, _≤_, _^_};

@@ -9,8 +9,14 @@ use Rattle.aps2.proofs.answer.run.Tie as tie
 large-buffer-requires : tie.Need-large-buffer-requires
 large-buffer-requires c κs = search needs
 
+for-words-requires : tie.Need-for-words-requires
+for-words-requires c κs = search needs
+
 slice-aggregate-messages-of : tie.Need-slice-aggregate-messages-of
 slice-aggregate-messages-of c = search needs
+
+slice-aggregate-messages-of-2 : tie.Need-slice-aggregate-messages-of-2
+slice-aggregate-messages-of-2 c = search needs
 
 messages-of-requires : tie.Need-messages-of-requires
 messages-of-requires c κs = search needs
@@ -28,7 +34,7 @@ array-share-prefix-messages : tie.Need-array-share-prefix-messages
 array-share-prefix-messages c = search needs
 
 slice-aggregate-rehearse-in-room : tie.Need-slice-aggregate-rehearse-in-room
-slice-aggregate-rehearse-in-room c = sym (length-take-le (c .before .before .before .before .before .before .messages-of .result .count) (c .before .before .before .before .before .before .messages-of .last .1 .0) (omega (arith, c .before .before .if2 .taken, c .before .before .before .before .before .before .messages-of .kept .1 .0)))
+slice-aggregate-rehearse-in-room c = sym (length-take-le (c .before .before .before .before .before .before .before .messages-of .result .count) (c .before .before .before .before .before .before .before .messages-of .last .1 .1 .0) (omega (arith, c .before .before .if2 .taken, c .before .before .before .before .before .before .before .messages-of .kept .1 .1 .0)))
 
 slice-aggregate-rehearse-in-room-2 : tie.Need-slice-aggregate-rehearse-in-room-2
 slice-aggregate-rehearse-in-room-2 c = search needs
@@ -47,7 +53,9 @@ run-spec =
     tie.close
     (tie.spec
     large-buffer-requires
+    for-words-requires
     slice-aggregate-messages-of
+    slice-aggregate-messages-of-2
     messages-of-requires
     ends-requires
     returns

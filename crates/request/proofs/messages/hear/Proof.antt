@@ -1,73 +1,80 @@
--- One byte after the other.
+-- As many numbers as were taken.
+use mathlib.Core.Path.{sym}
 use native.Mathlib.Omega.{arith}
-use Prim.Native.Nat.{_-_}
-use mathlib.Core.Path.{_≡_, refl, _∙_}
-use lib.ListN.{length}
+use lib.Seq.{length-take-le}
 use borrow.Author.Needs.{needs}
 use Rattle.request.proofs.messages.hear.Statement.{statement}
 use Rattle.request.proofs.messages.hear.Tie as tie
 
-abbrev Inv-loop : tie.InvT-loop
-Inv-loop text out₀ letters₀ heard₀ i₀ out letters heard i = (length out ≡ length out₀) × (length letters ≡ 20)
+start-requires : tie.Need-start-requires
+start-requires c κs = search needs
 
-abbrev μ-loop : tie.MeasureT-loop
-μ-loop text out₀ letters₀ heard₀ i₀ out letters heard i = length text - i
+take-requires : tie.Need-take-requires
+take-requires c κs = search needs
 
-loop-holds : tie.Need-loop-holds Inv-loop μ-loop
-loop-holds c = (refl, refl)
+slice-aggregate-take : tie.Need-slice-aggregate-take
+slice-aggregate-take c = search needs
 
-shared-slice-read-with-byte : tie.Need-shared-slice-read-with-byte Inv-loop μ-loop
-shared-slice-read-with-byte c = c .before .loop-test .taken
+take-requires-2 : tie.Need-take-requires-2
+take-requires-2 c κs = search needs
 
-slice-aggregate-with-byte : tie.Need-slice-aggregate-with-byte Inv-loop μ-loop
-slice-aggregate-with-byte c = search needs
+trouble-in-requires : tie.Need-trouble-in-requires
+trouble-in-requires c κs = search needs
 
-with-byte-requires : tie.Need-with-byte-requires Inv-loop μ-loop
-with-byte-requires c κs = search needs
+bad-requires : tie.Need-bad-requires
+bad-requires c κs = search needs
 
-add-i : tie.Need-add-i Inv-loop μ-loop
-add-i c = omega (arith, c .before .before .before .before .before .before .before .loop-test .taken, c .before .before .before .before .before .before .before .before .before .before .before .good)
+same-length : tie.Need-same-length
+same-length c = search needs
 
-loop-less : tie.Need-loop-less Inv-loop μ-loop
-loop-less c = omega (arith, c .before .before .before .before .before .before .before .loop-test .taken)
-
-loop-again : tie.Need-loop-again Inv-loop μ-loop
-loop-again c = (c .before .before .before .with-byte .kept .1 .1 .1 .0 ∙ c .before .before .before .before .before .before .before .before .loop .inv .0, c .before .before .before .with-byte .kept .1 .1 .0 ∙ c .before .before .before .before .before .before .before .before .loop .inv .1)
-
-same-length : tie.Need-same-length Inv-loop μ-loop
-same-length c = c .before .before .before .loop .inv .0
-
-returns : tie.Need-returns Inv-loop μ-loop
+returns : tie.Need-returns
 returns c = search needs
 
-slice-aggregate-closed : tie.Need-slice-aggregate-closed Inv-loop μ-loop
-slice-aggregate-closed c = search needs
+bad-requires-2 : tie.Need-bad-requires-2
+bad-requires-2 c κs = search needs
 
-closed-requires : tie.Need-closed-requires Inv-loop μ-loop
-closed-requires c κs = search needs
-
-same-length-2 : tie.Need-same-length-2 Inv-loop μ-loop
+same-length-2 : tie.Need-same-length-2
 same-length-2 c = search needs
 
-returns-2 : tie.Need-returns-2 Inv-loop μ-loop
+returns-2 : tie.Need-returns-2
 returns-2 c = search needs
+
+slice-reshare-prefix-as-bytes : tie.Need-slice-reshare-prefix-as-bytes
+slice-reshare-prefix-as-bytes c = search needs
+
+slice-aggregate-as-bytes : tie.Need-slice-aggregate-as-bytes
+slice-aggregate-as-bytes c = sym (length-take-le (c .before .before .before .before .before .before .take2 .result .count) (c .before .before .before .before .before .before .take2 .last .0) (omega (arith, c .before .if2 .left, c .before .before .before .before .before .before .take2 .kept .0)))
+
+as-bytes-requires : tie.Need-as-bytes-requires
+as-bytes-requires c κs = search needs
+
+same-length-3 : tie.Need-same-length-3
+same-length-3 c = search needs
+
+same-length-4 : tie.Need-same-length-4
+same-length-4 c = search needs
+
+returns-3 : tie.Need-returns-3
+returns-3 c = search needs
 
 pub hear-spec : {M : Type 1} → statement M
 hear-spec =
     tie.close
     (tie.spec
-    Inv-loop
-    μ-loop
-    loop-holds
-    shared-slice-read-with-byte
-    slice-aggregate-with-byte
-    with-byte-requires
-    add-i
-    loop-less
-    loop-again
+    start-requires
+    take-requires
+    slice-aggregate-take
+    take-requires-2
+    trouble-in-requires
+    bad-requires
     same-length
     returns
-    slice-aggregate-closed
-    closed-requires
+    bad-requires-2
     same-length-2
-    returns-2)
+    returns-2
+    slice-reshare-prefix-as-bytes
+    slice-aggregate-as-bytes
+    as-bytes-requires
+    same-length-3
+    same-length-4
+    returns-3)

@@ -17,6 +17,9 @@ is-part-requires c κs = search needs
 enum-told-2 : tie.Need-enum-told-2
 enum-told-2 c = search needs
 
+enum-told-3 : tie.Need-enum-told-3
+enum-told-3 c = search needs
+
 returns-2 : tie.Need-returns-2
 returns-2 c = rw (eq-eqb _ _ (c .before .before .before .before .if1 .left), c .before .before .enum-told .given .1, sym (c .before .is-part .ensures) ∙ c .if2 .taken)
 
@@ -29,6 +32,12 @@ returns-4 c = rw (eq-eqb _ _ (c .before .before .before .before .if1 .left), c .
 returns-5 : tie.Need-returns-5
 returns-5 c = rw (eq-eqb _ _ (c .before .before .before .before .if1 .left), c .before .before .enum-told2 .given .1, eq-eqb _ _ (c .if3 .left))
 
+returns-6 : tie.Need-returns-6
+returns-6 c = rw (eq-eqb _ _ (c .before .before .before .before .if1 .left), c .before .before .enum-told3 .given .1, ne-eqb _ _ (c .if4 .taken))
+
+returns-7 : tie.Need-returns-7
+returns-7 c = rw (eq-eqb _ _ (c .before .before .before .before .if1 .left), c .before .before .enum-told3 .given .1, eq-eqb _ _ (c .if4 .left))
+
 pub trouble-in-spec : {M : Type 1} → statement M
 trouble-in-spec =
     tie.close
@@ -37,7 +46,10 @@ trouble-in-spec =
     enum-told
     is-part-requires
     enum-told-2
+    enum-told-3
     returns-2
     returns-3
     returns-4
-    returns-5)
+    returns-5
+    returns-6
+    returns-7)
