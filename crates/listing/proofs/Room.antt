@@ -23,10 +23,10 @@ use Rattle.reader.specs.Reading.{noSuchCode, hasUnnamed, notItsOp, formIn, read
 use Rattle.reader.specs.declared.Reading.{Reading}
 use Rattle.reader.proofs.Laws.{reads-noop, reads, refuses}
 use Rattle.reader.proofs.Masks.{none-below, code-small}
-use Rattle.listing.specs.Text.{number, letters, decimal, restText, lineText, textOf}
+use Rattle.page.specs.Text.{number, letters, decimal, restText, lineText, textOf}
 use Rattle.instruction.specs.Word.{wordBytes}
 use Rattle.listing.specs.Listing.{nameOf, showsNone, shownOf, entriesOf, entriesIn, wordAt, linesFrom, listedWords, listingOf, lineSize, pageSize}
-use Rattle.listing.proofs.Decimal.{decimal-short}
+use Rattle.page.proofs.Decimal.{decimal-short}
 use Rattle.listing.proofs.Lines.{noop-line, other-line, listing-8, listing-9, listing-lines}
 
 -- ---- the numbers of a word

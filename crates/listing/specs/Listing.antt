@@ -16,7 +16,7 @@ use Rattle.instruction.specs.Word.{wordBytes, byteSpan}
 use Rattle.reader.specs.Reading.{readingOf}
 use Rattle.reader.specs.declared.Reading.{Reading}
 use Rattle.reader.specs.declared.Reading.the-variants.{Accepted, Refused}
-use Rattle.listing.specs.Text.{Entry, name, number, Line, textOf}
+use Rattle.page.specs.Text.{Entry, name, number, Line, textOf}
 
 -- ---- words
 

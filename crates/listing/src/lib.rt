@@ -6,11 +6,20 @@ ghost use Prim.Native.Nat.{_≤_, _<_, _+_, _*_, _%_};
 ghost use lib.ListN.{length, take, drop};
 ghost use Rattle.buffer.specs.Put.{Fits, Put};
 ghost use Rattle.reader.specs.Reading.{readingOf};
-ghost use Rattle.listing.specs.Text.{Entry, name, number, letters, digit, decimal, tab, lineFeed, restText, lineText, textOf};
+ghost use Rattle.page.specs.Text.{Entry, name, number, letters, digit, decimal, tab, lineFeed, restText, lineText, textOf};
 ghost use Rattle.instruction.specs.Word.{wordBytes, byteSpan};
 ghost use Rattle.listing.specs.Listing.{wordAt, nameOf, shownOf, entriesOf, entriesIn, linesFrom, listingOf, heardSize, heardOf, pageSize, Listed};
 use instruction::Body;
 use instruction::Instruction;
+use page::put_end;
+use page::put_four;
+use page::put_number;
+use page::put_one;
+use page::put_text;
+use page::put_three;
+use page::put_two;
+use page::put_value;
+use page::put_word;
 use reader::Reading;
 use reader::instruction_in;
 use reader::refusal_of;
@@ -40,140 +49,18 @@ impl Listing {
     pub const PAGE: usize = Listing::LINE * (Listing::WORDS + 1);
 }
 
-fn digit_count(n: u64) -> usize
-    ensures { λ r. ⌜ r ≡ length (decimal n) ⌝ }
-{
-    let mut rest = n;
-    let mut count: usize = 1;
-    while 10 <= rest {
-        rest = rest / 10;
-        count += 1;
-    }
-    count
-}
-
-fn last_digit(n: u64) -> u8
-    ensures { λ r. ⌜ r ≡ digit (n % 10) ⌝ }
-{
-    let d = n % 10;
-    b'0' + d as u8
-}
-
-// A number in decimal, from its last digit to its first.
-fn put_number(page: &mut [u8], at: usize, n: u64) -> usize
-    requires { ⌜ Fits (decimal n) (now page) at ⌝ }
-    ensures { λ r. ⌜ Put (decimal n) (now (page .entry)) at (now (page .exit)) r ⌝ }
-{
-    let end = at + digit_count(n);
-    let mut i = end - 1;
-    let mut rest = n;
-    while 10 <= rest {
-        page[i] = last_digit(rest);
-        rest = rest / 10;
-        i -= 1;
-    }
-    page[i] = last_digit(rest);
-    end
-}
-
-fn put_byte(page: &mut [u8], at: usize, b: u8) -> usize
-    requires { ⌜ Fits (b ∷ []) (now page) at ⌝ }
-    ensures { λ r. ⌜ Put (b ∷ []) (now (page .entry)) at (now (page .exit)) r ⌝ }
-{
-    page[at] = b;
-    at + 1
-}
-
-fn put_text(page: &mut [u8], at: usize, text: &[u8]) -> usize
-    requires { ⌜ Fits (now text) (now page) at ⌝ }
-    ensures { λ r. ⌜ Put (now (text .entry)) (now (page .entry)) at (now (page .exit)) r ⌝ }
-{
-    let mut i: usize = 0;
-    while i < text.len() {
-        page[at + i] = text[i];
-        i += 1;
-    }
-    at + i
-}
-
-fn put_end(page: &mut [u8], at: usize) -> usize
-    requires { ⌜ Fits (restText []) (now page) at ⌝ }
-    ensures { λ r. ⌜ Put (restText []) (now (page .entry)) at (now (page .exit)) r ⌝ }
-{
-    put_byte(page, at, b'\n')
-}
-
-// A name, after a tab.
-fn put_word(page: &mut [u8], at: usize, text: &[u8]) -> usize
-    requires { ⌜ Fits (tab ∷ now text) (now page) at ⌝ }
-    ensures { λ r. ⌜ Put (tab ∷ now (text .entry)) (now (page .entry)) at (now (page .exit)) r ⌝ }
-{
-    let from = put_byte(page, at, b'\t');
-    put_text(page, from, text)
-}
-
-// A number, after a tab.
-fn put_value(page: &mut [u8], at: usize, n: u64) -> usize
-    requires { ⌜ Fits (tab ∷ decimal n) (now page) at ⌝ }
-    ensures { λ r. ⌜ Put (tab ∷ decimal n) (now (page .entry)) at (now (page .exit)) r ⌝ }
-{
-    let from = put_byte(page, at, b'\t');
-    put_number(page, from, n)
-}
-
-// The last numbers of a line, one to four of them.
-fn put_one(page: &mut [u8], at: usize, a: u64) -> usize
-    requires { ⌜ Fits (restText (number a ∷ [])) (now page) at ⌝ }
-    ensures { λ r. ⌜ Put (restText (number a ∷ [])) (now (page .entry)) at (now (page .exit)) r ⌝ }
-{
-    let end = put_value(page, at, a);
-    put_end(page, end)
-}
-
-fn put_two(page: &mut [u8], at: usize, a: u64, b: u64) -> usize
-    requires { ⌜ Fits (restText (number a ∷ number b ∷ [])) (now page) at ⌝ }
-    ensures { λ r. ⌜ Put (restText (number a ∷ number b ∷ [])) (now (page .entry)) at (now (page .exit)) r ⌝ }
-{
-    let end = put_value(page, at, a);
-    put_one(page, end, b)
-}
-
-fn put_three(page: &mut [u8], at: usize, a: u64, b: u64, c: u64) -> usize
-    requires { ⌜ Fits (restText (number a ∷ number b ∷ number c ∷ [])) (now page) at ⌝ }
-    ensures { λ r. ⌜ Put (restText (number a ∷ number b ∷ number c ∷ [])) (now (page .entry)) at (now (page .exit)) r ⌝ }
-{
-    let end = put_value(page, at, a);
-    put_two(page, end, b, c)
-}
-
-fn put_four(page: &mut [u8], at: usize, a: u64, b: u64, c: u64, d: u64) -> usize
-    requires { ⌜ Fits (restText (number a ∷ number b ∷ number c ∷ number d ∷ [])) (now page) at ⌝ }
-    ensures { λ r. ⌜ Put (restText (number a ∷ number b ∷ number c ∷ number d ∷ [])) (now (page .entry)) at (now (page .exit)) r ⌝ }
-{
-    let end = put_value(page, at, a);
-    put_three(page, end, b, c, d)
-}
-
+// The name, after a tab: the table has eleven letters for each op code, and the name as many of them as its size.
 fn put_name(page: &mut [u8], at: usize, body: Body) -> usize
     requires { ⌜ Fits (tab ∷ letters (nameOf body)) (now page) at ⌝ }
     ensures { λ r. ⌜ Put (tab ∷ letters (nameOf body)) (now (page .entry)) at (now (page .exit)) r ⌝ }
 {
-    match body {
-        Body::Waveform(_) => put_word(page, at, b"WAVEFORM"),
-        Body::Marker(_) => put_word(page, at, b"MARKER"),
-        Body::Wait => put_word(page, at, b"WAIT"),
-        Body::LoadRepeat(_) => put_word(page, at, b"LOAD_REPEAT"),
-        Body::Repeat(_) => put_word(page, at, b"REPEAT"),
-        Body::Cmp(_) => put_word(page, at, b"CMP"),
-        Body::Goto(_) => put_word(page, at, b"GOTO"),
-        Body::Call(_) => put_word(page, at, b"CALL"),
-        Body::Return(_) => put_word(page, at, b"RETURN"),
-        Body::Sync => put_word(page, at, b"SYNC"),
-        Body::Modulator(_) => put_word(page, at, b"MODULATOR"),
-        Body::LoadCmp(_) => put_word(page, at, b"LOAD_CMP"),
-        Body::Prefetch(_) => put_word(page, at, b"PREFETCH"),
-        Body::Noop => put_word(page, at, b"NOOP"),
-    }
+    let names: [u8; 176] =
+        *b"WAVEFORM   MARKER     WAIT       LOAD_REPEATREPEAT     CMP        GOTO       CALL       RETURN     SYNC       MODULATOR  LOAD_CMP   PREFETCH                         NOOP       ";
+    let sizes: [usize; 16] = [8, 6, 4, 11, 6, 3, 4, 4, 6, 4, 9, 8, 8, 0, 0, 4];
+    let code = body.code() as usize;
+    let from = code * 11;
+    let end = from + sizes[code];
+    put_word(page, at, &names[from..end])
 }
 
 // The table's fields, and the end of the line.

@@ -5,7 +5,7 @@ use native.Mathlib.Nat.{zero-add}
 use native.Mathlib.Omega.{arith}
 use lib.ListN.{length, replicate}
 use Rattle.reader.specs.Reading.{readingOf}
-use Rattle.listing.specs.Text.{number, lineText}
+use Rattle.page.specs.Text.{number, lineText}
 use Rattle.listing.specs.Listing.{entriesIn, lineSize}
 use Rattle.listing.proofs.Lines.{listed-not, listed-whole}
 use Rattle.listing.proofs.Room.{line-short}

@@ -6,7 +6,7 @@ use Rattle.instruction.specs.Bits.{pick}
 use Rattle.instruction.specs.Table.{isNoop}
 use Rattle.buffer.specs.Put.{Fits, Put}
 use Rattle.buffer.proofs.Laws.{fits-first, fits-next, puts-both}
-use Rattle.listing.specs.Text.{number, letters, decimal, tab, restText}
+use Rattle.page.specs.Text.{number, letters, decimal, tab, restText}
 use Rattle.listing.specs.Listing.{nameOf, shownOf}
 use Rattle.listing.proofs.Lines.{noop-line, other-line}
 use borrow.Author.Needs.{needs}
