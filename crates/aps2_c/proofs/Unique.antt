@@ -5,7 +5,7 @@ use mathlib.Core.List.{List, [], _∷_}
 use Prim.Native.Nat.{ℕ}
 use Rattle.reader.specs.declared.Reading.{Reading}
 use Rattle.writer.specs.declared.Written.{Written}
-use Rattle.machine.specs.State.{Did}
+use Rattle.jumps.specs.State.{Did}
 use Rattle.verdict.specs.declared.Verdict.{Verdict}
 use Rattle.verdict.proofs.Unique.{one-answer-check}
 use Rattle.listing.specs.Listing.{Listed}

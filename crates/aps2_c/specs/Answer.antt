@@ -7,9 +7,9 @@ use lib.ListN.{getD}
 use Rattle.instruction.specs.Form.{numbered}
 use Rattle.sequence.specs.Bounds.{stackDepth}
 use Rattle.dispatch.specs.Engines.{engineCount}
-use Rattle.machine.specs.State.{Did}
-use Rattle.machine.specs.declared.Condition.{Condition}
-use Rattle.machine.specs.declared.Condition.the-variants.{Absent, Fails, Holds}
+use Rattle.jumps.specs.State.{Did}
+use Rattle.jumps.specs.declared.Condition.{Condition}
+use Rattle.jumps.specs.declared.Condition.the-variants.{Absent, Fails, Holds}
 use Rattle.rehearsal.specs.Run.{Rehearsed}
 use Rattle.rehearsal.specs.declared.Answer.{Answer}
 use Rattle.verdict.specs.Check.{verdict, CheckIs}

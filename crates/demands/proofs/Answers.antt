@@ -1,8 +1,13 @@
 -- `one-answer-..`, for each public function: its contract leaves one answer, and one content of what is lent to it.
 -- Assumes nothing.
 use mathlib.Core.Path.{sym, _∙_}
+use mathlib.Core.List.{List, []}
+use Prim.Native.Nat.{ℕ}
+use Rattle.jumps.specs.State.{Did, stateOf, Done}
+use Rattle.jumps.specs.Jumps.{callOf, returnOf}
+use Rattle.jumps.specs.declared.Stepped.{Stepped}
 use Rattle.verdict.proofs.Unique as unique
-use Rattle.demands.specs.Answers.{OneEqual, OneRead, OneWrite, OneRun, OneCheck, OneList, OneStep, OneDispatch, OneWalk, OneSeen, OneJudge}
+use Rattle.demands.specs.Answers.{One, OneEqual, OneRead, OneWrite, OneRun, OneCheck, OneList, OneStep, OneCall, OneReturn, OneMessage, OneDispatch, OneWalk, OneSeen, OneJudge}
 
 pub one-answer-equation : OneEqual
 one-answer-equation A d r r′ p q = p ∙ sym q
@@ -36,6 +41,25 @@ one-answer-step e s before r r′ p q =
     let state = p .done .state ∙ sym (q .done .state) in
     let trace = p .trace ∙ sym (q .trace) in
     λ i. (record { end = end i; core = state i .core }, trace i, state i .returns, state i .counters, state i .waits, state i .totals)
+
+-- what is done with the stack lent, whatever the engines have counted
+one-jump : (does : List ℕ → List ℕ → Did) → One (Stepped × List ℕ × List ℕ) (λ r. (ws ts : List ℕ) → Done (does ws ts) (r .0) (r .1) (r .2) ws ts)
+one-jump does r r′ p q =
+    let end = p [] [] .end ∙ sym (q [] [] .end) in
+    let state = p [] [] .state ∙ sym (q [] [] .state) in
+    λ i. (record { end = end i; core = state i .core }, state i .returns, state i .counters)
+
+pub one-answer-call : OneCall
+one-answer-call s returns counters to = one-jump (λ ws ts. callOf (stateOf s returns counters ws ts) to)
+
+pub one-answer-return : OneReturn
+one-answer-return s returns counters = one-jump (λ ws ts. returnOf (stateOf s returns counters ws ts))
+
+pub one-answer-message : OneMessage
+one-answer-message messages s r r′ p q =
+    let end = p [] [] [] [] .end ∙ sym (q [] [] [] [] .end) in
+    let state = p [] [] [] [] .state ∙ sym (q [] [] [] [] .state) in
+    λ i. record { end = end i; core = state i .core }
 
 pub one-answer-dispatch : OneDispatch
 one-answer-dispatch out k trace waits totals r r′ p q =

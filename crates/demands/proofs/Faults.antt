@@ -20,11 +20,12 @@ use Rattle.instruction.specs.declared.Body.the-variants as body
 use Rattle.sequence.specs.Bounds.{stackDepth, groupSize, budgetLimit}
 use Rattle.sequence.specs.Placing.{isEngine}
 use Rattle.dispatch.proofs.Counts.{picks}
-use Rattle.machine.specs.State.{Fixed, Did, fresh, withCount, withCounter, withCore, stop, moves}
-use Rattle.machine.specs.Step.{nexts, repeatOf, compares, acts, cleared, gotoOf, callOf, returnOf, messageOf, sent, sendOf, engineOf, anyAbove, syncOf, actOf, breaksGroup, stepOf}
-use Rattle.machine.specs.declared.Condition.{Condition}
-use Rattle.machine.specs.declared.Condition.the-variants.{Absent, Fails, Holds}
-use Rattle.machine.specs.declared.State.{State}
+use Rattle.jumps.specs.State.{Fixed, Did, fresh, withCount, withCounter, withCore, stop, moves}
+use Rattle.jumps.specs.Jumps.{nexts, repeatOf, compares, acts, cleared, gotoOf, callOf, returnOf, messageOf}
+use Rattle.jumps.specs.declared.Condition.{Condition}
+use Rattle.jumps.specs.declared.Condition.the-variants.{Absent, Fails, Holds}
+use Rattle.jumps.specs.declared.State.{State}
+use Rattle.machine.specs.Step.{sent, sendOf, engineOf, anyAbove, syncOf, actOf, breaksGroup, stepOf}
 use Rattle.machine.proofs.Laws.{execute-acts, step-accepted}
 use Rattle.rehearsal.specs.Run.{thenDid, runOf, rehearse}
 use Rattle.rehearsal.proofs.Runs.{rehearse-runs, refused-none}

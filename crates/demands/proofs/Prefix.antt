@@ -18,10 +18,12 @@ use Rattle.reader.specs.declared.Reading.{Reading}
 use Rattle.reader.specs.declared.Reading.the-variants.{Accepted, Refused}
 use Rattle.sequence.specs.Placing.{placingOf}
 use Rattle.sequence.specs.Bounds.{lengthsRefused}
-use Rattle.machine.specs.State.{Fixed, Did, fresh, stop}
-use Rattle.machine.specs.Step.{messageOf, sendOf, engineOf, anyAbove, syncOf, actOf, breaksGroup, executeOf, stepOf}
-use Rattle.machine.specs.declared.State.{State}
-use Rattle.machine.proofs.Laws.{message-none, message-taken, send-full, send-whole, engine-low, engine-high, sync-stops, sync-sends, execute-placed, execute-broken, execute-acts, step-past, step-refused, step-accepted}
+use Rattle.jumps.specs.State.{Fixed, Did, fresh, stop}
+use Rattle.jumps.specs.Jumps.{messageOf}
+use Rattle.jumps.specs.declared.State.{State}
+use Rattle.jumps.proofs.Laws.{message-none, message-taken}
+use Rattle.machine.specs.Step.{sendOf, engineOf, anyAbove, syncOf, actOf, breaksGroup, executeOf, stepOf}
+use Rattle.machine.proofs.Laws.{send-full, send-whole, engine-low, engine-high, sync-stops, sync-sends, execute-placed, execute-broken, execute-acts, step-past, step-refused, step-accepted}
 use Rattle.rehearsal.specs.Run.{onto, thenDid, runOf, inputRefused, rehearse}
 use Rattle.rehearsal.proofs.Runs.{rehearse-refused, rehearse-runs, refused-none, input-good}
 use Rattle.demands.specs.Run.{Extends, Prefix}

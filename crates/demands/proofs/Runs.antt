@@ -18,9 +18,9 @@ use Rattle.instruction.specs.declared.Instruction.{Instruction}
 use Rattle.instruction.specs.declared.Body.the-variants.{Wait}
 use Rattle.dispatch.specs.Engines.{engineOf, waitsFor, playsFor, addTo, plusOne, waitsAfter, totalsAfter, waitsOver, totalsOver}
 use Rattle.dispatch.proofs.Counts.{picks}
-use Rattle.machine.specs.State.{Fixed, Did, fresh, stop}
+use Rattle.jumps.specs.State.{Fixed, Did, fresh, stop}
+use Rattle.jumps.specs.declared.State.{State}
 use Rattle.machine.specs.Step.{stepOf}
-use Rattle.machine.specs.declared.State.{State}
 use Rattle.rehearsal.proofs.Runs.{onto-onto}
 use Rattle.rehearsal.specs.Run.{onto, thenDid, runOf, inputRefused, rehearse}
 use Rattle.demands.specs.Run.{playedOn, awaitedOn, sumOver, TotalsAreSums, WaitsAreCounts, taken, StepsAreTaken, StepByStep}

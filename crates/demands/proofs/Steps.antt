@@ -21,10 +21,11 @@ use Rattle.reader.specs.declared.Reading.the-variants.{Accepted, Refused}
 use Rattle.sequence.specs.Placing.{placingOf}
 use Rattle.dispatch.proofs.Counts.{picks}
 use Rattle.instruction.specs.Form.{numbered}
-use Rattle.machine.specs.State.{Fixed, Did, stateOf, withCore, refusedBy, stop, moves}
-use Rattle.machine.specs.Step.{acts, callOf, returnOf, messageOf, groupOf, sent, sendOf, engineOf, anyAbove, syncOf, actOf, breaksGroup, executeOf, withReading, stepOf}
-use Rattle.machine.specs.declared.Core.{Core}
-use Rattle.machine.specs.declared.State.{State}
+use Rattle.jumps.specs.State.{Fixed, Did, stateOf, withCore, refusedBy, stop, moves}
+use Rattle.jumps.specs.Jumps.{acts, callOf, returnOf, messageOf}
+use Rattle.jumps.specs.declared.Core.{Core}
+use Rattle.jumps.specs.declared.State.{State}
+use Rattle.machine.specs.Step.{groupOf, sent, sendOf, engineOf, anyAbove, syncOf, actOf, breaksGroup, executeOf, withReading, stepOf}
 use Rattle.demands.specs.Run.{StopsStill}
 
 -- ---- a refused word has a number

@@ -15,7 +15,8 @@ use Rattle.reader.specs.Reading.{someBelow, hasUnnamed, notItsOp, formIn, readi
 use Rattle.reader.proofs.Masks.{none-below}
 use Rattle.sequence.specs.Bounds.{stackDepth, lengthsRefused}
 use Rattle.sequence.specs.Placing.{placingOf}
-use Rattle.machine.specs.Step.{callOf, returnOf, messageOf, sendOf, engineOf, syncOf, actOf, executeOf, withReading, stepOf}
+use Rattle.jumps.specs.Jumps.{callOf, returnOf, messageOf}
+use Rattle.machine.specs.Step.{sendOf, engineOf, syncOf, actOf, executeOf, withReading, stepOf}
 use Rattle.rehearsal.specs.Run.{runOf, inputRefused, rehearse}
 use Rattle.flow.specs.Walk.{Reached, start, compare, enter, passed, other, goto, past, full, empty}
 use Rattle.verdict.specs.Flow.{FlowIs, sound, faulty}

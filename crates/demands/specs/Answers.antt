@@ -9,10 +9,12 @@ use Rattle.reader.specs.declared.Reading.{Reading}
 use Rattle.writer.specs.Writing.{writtenOf}
 use Rattle.writer.specs.declared.Written.{Written}
 use Rattle.dispatch.specs.Trace.{Dispatched}
-use Rattle.machine.specs.State.{Fixed, Traced}
+use Rattle.jumps.specs.State.{Fixed, stateOf, Done, Traced}
+use Rattle.jumps.specs.Jumps.{callOf, returnOf, messageOf}
+use Rattle.jumps.specs.declared.Core.{Core}
+use Rattle.jumps.specs.declared.State.{State}
+use Rattle.jumps.specs.declared.Stepped.{Stepped}
 use Rattle.machine.specs.Step.{stepOf}
-use Rattle.machine.specs.declared.State.{State}
-use Rattle.machine.specs.declared.Stepped.{Stepped}
 use Rattle.rehearsal.specs.Run.{rehearse, Rehearsed}
 use Rattle.rehearsal.specs.declared.Answer.{Answer}
 use Rattle.walk.specs.Marks.{Marked, Settled}
@@ -53,6 +55,20 @@ abbrev pub OneStep : Type 0
 OneStep =
     (e : Fixed) (s : State) (before : List ℕ)
     → One (Stepped × List ℕ × List ℕ × List ℕ × List ℕ × List ℕ) (λ r. Traced (stepOf e s) (s .core .sent) before (r .1) (r .0) (r .2) (r .3) (r .4) (r .5))
+
+-- CALL and RETURN, with the stack lent to them, and LOAD_CMP; what is not lent stays, whatever it is
+abbrev pub OneCall : Type 0
+OneCall =
+    (s : Core) (returns counters : List ℕ) (to : ℕ)
+    → One (Stepped × List ℕ × List ℕ) (λ r. (ws ts : List ℕ) → Done (callOf (stateOf s returns counters ws ts) to) (r .0) (r .1) (r .2) ws ts)
+
+abbrev pub OneReturn : Type 0
+OneReturn =
+    (s : Core) (returns counters : List ℕ)
+    → One (Stepped × List ℕ × List ℕ) (λ r. (ws ts : List ℕ) → Done (returnOf (stateOf s returns counters ws ts)) (r .0) (r .1) (r .2) ws ts)
+
+abbrev pub OneMessage : Type 0
+OneMessage = (messages : List ℕ) (s : Core) → One Stepped (λ r. (rs cs ws ts : List ℕ) → Done (messageOf messages (stateOf s rs cs ws ts)) r rs cs ws ts)
 
 -- the dispatcher, with the trace, the waits and the totals
 abbrev pub OneDispatch : Type 0

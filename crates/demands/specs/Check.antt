@@ -6,7 +6,7 @@ use Prim.Native.Nat.{ℕ, _≤_, _<_}
 use lib.ListN.{length}
 use Rattle.instruction.specs.Form.{numbered}
 use Rattle.sequence.specs.Bounds.{stackDepth, budgetLimit}
-use Rattle.machine.specs.State.{Fixed}
+use Rattle.jumps.specs.State.{Fixed}
 use Rattle.rehearsal.specs.Run.{rehearse}
 use Rattle.flow.specs.Walk.{Fault}
 use Rattle.verdict.specs.Words.{Passes}

@@ -12,9 +12,9 @@ use Rattle.instruction.specs.declared.Instruction.{Instruction}
 use Rattle.instruction.specs.declared.Body.the-variants.{Wait}
 use Rattle.sequence.specs.Bounds.{budgetLimit}
 use Rattle.dispatch.specs.Engines.{engineCount, engineOf, waitsFor, playsFor}
-use Rattle.machine.specs.State.{Fixed}
+use Rattle.jumps.specs.State.{Fixed}
+use Rattle.jumps.specs.declared.State.{State}
 use Rattle.machine.specs.Step.{stepOf}
-use Rattle.machine.specs.declared.State.{State}
 use Rattle.rehearsal.specs.Run.{onto, runOf, rehearse}
 
 -- ---- prefix

@@ -6,7 +6,7 @@ use Prim.Native.Nat.{ℕ, _≤_}
 use lib.ListN.{length, getD, replicate}
 use Rattle.instruction.specs.Form.{numbered}
 use Rattle.dispatch.specs.Engines.{engineCount}
-use Rattle.machine.specs.State.{Did, fixedBy}
+use Rattle.jumps.specs.State.{Did, fixedBy}
 use Rattle.rehearsal.specs.Run.{rehearse}
 use Rattle.verdict.specs.Check.{verdict, CheckIs}
 use Rattle.verdict.specs.declared.Verdict.{Verdict}

@@ -23,11 +23,12 @@ use Rattle.dispatch.specs.Engines.{AllLe}
 use Rattle.dispatch.proofs.Lists.{all-get, all-set}
 use Rattle.dispatch.proofs.Counts.{picks, counted-more, counted-over}
 use Rattle.instruction.specs.Form.{numbered}
-use Rattle.machine.specs.State.{Fixed, Did, stateOf, fresh, withCore, refusedBy, moves}
-use Rattle.machine.specs.Step.{acts, repeatOf, gotoOf, callOf, returnOf, messageOf, holdOf, groupOf, sendOf, engineOf, anyAbove, syncOf, actOf, breaksGroup, executeOf, withReading, stepOf}
+use Rattle.jumps.specs.State.{Fixed, Did, stateOf, fresh, withCore, refusedBy, moves}
+use Rattle.jumps.specs.Jumps.{acts, repeatOf, gotoOf, callOf, returnOf, messageOf, holdOf}
+use Rattle.jumps.specs.declared.Core.{Core}
+use Rattle.jumps.specs.declared.State.{State}
+use Rattle.machine.specs.Step.{groupOf, sendOf, engineOf, anyAbove, syncOf, actOf, breaksGroup, executeOf, withReading, stepOf}
 use Rattle.machine.specs.Kept.{Good}
-use Rattle.machine.specs.declared.Core.{Core}
-use Rattle.machine.specs.declared.State.{State}
 
 pub record Kept (e : Fixed) (s : State) (d : Did) : Type 0 where
   pub good : Good e (d .state)

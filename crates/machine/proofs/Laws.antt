@@ -22,22 +22,15 @@ use Rattle.buffer.specs.Put.{put}
 use Rattle.buffer.proofs.Laws.{put-none}
 use Rattle.dispatch.proofs.Counts.{picks, counted-more}
 use Rattle.instruction.specs.Form.{numbered}
-use Rattle.machine.specs.State.{Fixed, Did, stateOf, withMessage, withCore, refusedBy, stop, moves, stopped, Done, Traced}
-use Rattle.machine.specs.Step.{nexts, acts, cleared, pushed, callOf, popped, returnOf, messageOf, holdOf, groupOf, sent, sendOf, engineOf, anyAbove, syncOf, actOf, breaksGroup, executeOf, withReading, stepOf}
+use Rattle.jumps.specs.State.{Fixed, Did, stateOf, withCore, refusedBy, stop, moves, Done, Traced}
+use Rattle.jumps.specs.Jumps.{holdOf}
+use Rattle.jumps.specs.declared.Core.{Core}
+use Rattle.jumps.specs.declared.State.{State}
+use Rattle.jumps.specs.declared.Stepped.{Stepped}
+use Rattle.machine.specs.Step.{groupOf, sent, sendOf, engineOf, anyAbove, syncOf, actOf, breaksGroup, executeOf, withReading, stepOf}
 use Rattle.machine.specs.Kept.{At, Sends, goesOut, groupRefused}
-use Rattle.machine.specs.declared.Core.{Core}
-use Rattle.machine.specs.declared.State.{State}
-use Rattle.machine.specs.declared.Stepped.{Stepped}
 
 -- ---- answers
-
-pub moved-done : {r : Stepped} {core : Core} {rs cs ws ts : List ℕ} → r ≡ stopped 0 core → Done (moves (stateOf core rs cs ws ts)) r rs cs ws ts
-moved-done {rs = rs} {cs = cs} {ws = ws} {ts = ts} e =
-    record { end = ap (λ (x : Stepped). x .end) e; state = ap (λ (x : Stepped). stateOf (x .core) rs cs ws ts) e }
-
-pub stopped-done : {r : Stepped} {n : ℕ} {core : Core} {rs cs ws ts : List ℕ} → r ≡ stopped n core → Done (stop n (stateOf core rs cs ws ts)) r rs cs ws ts
-stopped-done {rs = rs} {cs = cs} {ws = ws} {ts = ts} e =
-    record { end = ap (λ (x : Stepped). x .end) e; state = ap (λ (x : Stepped). stateOf (x .core) rs cs ws ts) e }
 
 pub refused-done : {q q′ : Refusal} {core : Core} {rs cs ws ts : List ℕ} → q ≡ q′ → Done (refusedBy q′ (stateOf core rs cs ws ts)) (record { end = q; core = core }) rs cs ws ts
 refused-done e = record { end = e; state = refl }
@@ -45,41 +38,6 @@ refused-done e = record { end = e; state = refl }
 -- an answer that dispatched nothing
 pub quiet : {d : Did} {r : Stepped} {rs cs ws ts : List ℕ} (k : ℕ) (t : List ℕ) → d .out ≡ [] → Done d r rs cs ws ts → Traced d k t t r rs cs ws ts
 quiet k t e d = record { done = d; trace = sym (put-none t k) ∙ ap (put t k) (sym e) }
-
--- ---- flow
-
-pub call-not : (s : State) (a : ℕ) → acts (s .core .condition) ≡ false → callOf s a ≡ moves (withCore (nexts (cleared (s .core))) s)
-unfolding callOf
-call-not s a p = rw p
-
-pub call-full : (s : State) (a : ℕ) → acts (s .core .condition) ≡ true → 16 ≤ s .core .depth → callOf s a ≡ stop 31 s
-unfolding callOf
-call-full s a p h = rw (p, le-ltb (s .core .depth) 16 h)
-
-pub call-taken : (s : State) (a : ℕ) → acts (s .core .condition) ≡ true → s .core .depth < 16 → callOf s a ≡ moves (pushed s a)
-unfolding callOf
-call-taken s a p h = rw (p, lt-ltb (s .core .depth) 16 h)
-
-pub return-not : (s : State) → acts (s .core .condition) ≡ false → returnOf s ≡ moves (withCore (nexts (cleared (s .core))) s)
-unfolding returnOf
-return-not s p = rw p
-
-pub return-none : (s : State) → acts (s .core .condition) ≡ true → s .core .depth ≡ 0 → returnOf s ≡ stop 32 s
-unfolding returnOf
-return-none s p h = rw (p, h)
-
-pub return-taken : (s : State) → acts (s .core .condition) ≡ true → 0 < s .core .depth → returnOf s ≡ moves (popped s (s .core .depth - 1))
-unfolding returnOf
-return-taken s p h = rw (p, lt-ltb 0 (s .core .depth) h)
-
-pub message-none : (m : List ℕ) (s : State) → length m ≤ s .core .used → messageOf m s ≡ stop 42 s
-unfolding messageOf
-message-none m s h = rw (le-ltb (s .core .used) (length m) h)
-
-pub message-taken : (m : List ℕ) (s : State) → s .core .used < length m
-    → messageOf m s ≡ moves (withCore (nexts (withMessage (s .core .used + 1) (getD m (s .core .used) 0) (s .core))) s)
-unfolding messageOf
-message-taken m s h = rw (lt-ltb (s .core .used) (length m) h)
 
 -- ---- dispatch
 
@@ -188,20 +146,6 @@ next-place P i h p j l = by (ℕ-discrete j i)
     by : Dec (j ≡ i) → P j
     by (yes e) = subst P (sym e) p
     by (no e) = h j (omega arith)
-
--- ---- flow dispatches nothing
-
-pub call-quiet : (s : State) (a : ℕ) → callOf s a .out ≡ []
-unfolding callOf
-call-quiet s a = picks (λ (d : Did). d .out ≡ []) (acts (s .core .condition)) (λ _. picks (λ (d : Did). d .out ≡ []) (ltb (s .core .depth) 16) (λ _. refl) (λ _. refl)) (λ _. refl)
-
-pub return-quiet : (s : State) → returnOf s .out ≡ []
-unfolding returnOf
-return-quiet s = picks (λ (d : Did). d .out ≡ []) (acts (s .core .condition)) (λ _. picks (λ (d : Did). d .out ≡ []) (ltb 0 (s .core .depth)) (λ _. refl) (λ _. refl)) (λ _. refl)
-
-pub message-quiet : (m : List ℕ) (s : State) → messageOf m s .out ≡ []
-unfolding messageOf
-message-quiet m s = picks (λ (d : Did). d .out ≡ []) (ltb (s .core .used) (length m)) (λ _. refl) (λ _. refl)
 
 -- ---- what the functions ask, from what a state keeps
 

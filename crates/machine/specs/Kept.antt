@@ -12,10 +12,11 @@ use Rattle.instruction.specs.declared.Body.the-variants.{Waveform, Marker, Wait
 use Rattle.sequence.specs.Bounds.{stackDepth, budgetLimit, groupSize}
 use Rattle.sequence.specs.Placing.{placingOf}
 use Rattle.dispatch.specs.Engines.{AllLe, Counted}
-use Rattle.machine.specs.State.{Fixed}
+use Rattle.jumps.specs.State.{Fixed}
+use Rattle.jumps.specs.Asked.{Holds}
+use Rattle.jumps.specs.declared.Core.{Core}
+use Rattle.jumps.specs.declared.State.{State}
 use Rattle.machine.specs.Step.{breaksGroup}
-use Rattle.machine.specs.declared.Core.{Core}
-use Rattle.machine.specs.declared.State.{State}
 
 pub record Good (e : Fixed) (s : State) : Type 0 where
   pub address : s .core .address .0 ≤ length (e .words)
@@ -36,19 +37,6 @@ pub record Ready (e : Fixed) (s : State) : Type 0 where
 pub record At (e : Fixed) (s : State) : Type 0 where
   pub ready : Ready e s
   pub inside : s .core .address .0 < length (e .words)
-
--- what a core alone must be like for that
-pub record Counts (c : Core) : Type 0 where
-  pub address : c .address .0 < 2 ^ 63
-  pub steps : c .steps < budgetLimit
-
-pub record Holds (c : Core) : Type 0 where
-  pub counts : Counts c
-  pub held : c .held < groupSize
-
-pub record Returns (c : Core) : Type 0 where
-  pub counts : Counts c
-  pub depth : c .depth ≤ stackDepth
 
 -- a group that ends at the address can go out
 pub record Sends (words : List ℕ) (room : ℕ) (c : Core) (ws ts : List ℕ) : Type 0 where

@@ -1,104 +1,28 @@
 -- One step, as document 01 gives it: its order of tests, and what each instruction does. The budget is the run's.
 -- "Order of tests: budget (40); address n (30); form, 20, 21; 22; 31 or 32; 41; 42; 43."
 use Prim.Native.Nat.{ℕ, _+_, _-_}
-use mathlib.Core.Bool.{Bool, true, false, not, _||_, _&&_}
+use mathlib.Core.Bool.{Bool, false, _||_, _&&_}
 use mathlib.Core.List.{List, [], _∷_}
 use lib.Dec.{ltb, eqb, leb}
-use lib.ListN.{length, getD, set}
+use lib.ListN.{length, getD}
 use Rattle.instruction.specs.Bits.{pick}
-use Rattle.instruction.specs.declared.Comparison.{Comparison}
 use Rattle.instruction.specs.declared.Instruction.{Instruction}
 use Rattle.instruction.specs.declared.Body.{Body}
 use Rattle.instruction.specs.declared.Body.the-variants.{Waveform, Marker, Wait, LoadRepeat, Repeat, Cmp, Goto, Call, Return, Sync, Modulator, LoadCmp, Prefetch, Noop}
 use Rattle.reader.specs.Reading.{readingOf}
 use Rattle.reader.specs.declared.Reading.{Reading}
 use Rattle.reader.specs.declared.Reading.the-variants.{Accepted, Refused}
-use Rattle.sequence.specs.Bounds.{stackDepth, groupSize}
+use Rattle.sequence.specs.Bounds.{groupSize}
 use Rattle.sequence.specs.Placing.{isEngine, placingOf}
 use Rattle.dispatch.specs.Engines.{waitsOver, totalsOver}
 use Rattle.dispatch.specs.Trace.{part}
 use Rattle.instruction.specs.Form.{numbered}
-use Rattle.machine.specs.State.{Fixed, Did, stateOf, withCount, withMessage, withSent, withCounter, withCondition, withDepth, withCore, refusedBy, stop, moves}
-use Rattle.machine.specs.declared.Condition.{Condition}
-use Rattle.machine.specs.declared.Condition.the-variants.{Absent, Fails, Holds}
-use Rattle.machine.specs.declared.Core.{Core}
-use Rattle.machine.specs.declared.State.{State}
-
--- the step is counted, and goes to an address, or to the next one
-abbrev pub goes : ℕ → Core → Core
-goes a c = withCount a (c .steps + 1) c
-
-abbrev pub nexts : Core → Core
-nexts c = goes (c .address .0 + 1) c
-
--- ---- flow
-
--- H3: "REPEAT with counter 0 goes on and leaves 0; otherwise lowers it by one and jumps."
-abbrev pub repeatOf : Core → ℕ → Core
-repeatOf c a = pick (eqb (c .counter) 0) (nexts c) (goes a (withCounter (c .counter - 1) c))
-
--- H4: "CMP compares register (left) with mask now and leaves a condition, true or false"; code "0 =, 1 ≠, 2 >, 3 <"
-abbrev pub compares : ℕ → ℕ → ℕ → Bool
-compares code register mask =
-    pick (eqb code 0) (eqb register mask)
-    (pick (eqb code 1) (not (eqb register mask))
-    (pick (eqb code 2) (ltb mask register)
-    (ltb register mask)))
-
-abbrev pub compareOf : Core → Comparison → Core
-compareOf c x = nexts (withCondition (pick (compares (x .code) (c .register) (x .mask)) Holds Fails) c)
-
--- H4: "false means go on to the next address. Without one they always act."
-abbrev pub acts : Condition → Bool
-acts Absent = true
-acts Fails = false
-acts Holds = true
-
--- H4: "The next GOTO, CALL or RETURN executed uses it and clears it"
-abbrev pub cleared : Core → Core
-cleared c = withCondition Absent c
-
-abbrev pub gotoOf : Core → ℕ → Core
-gotoOf c a = pick (acts (c .condition)) (goes a (cleared c)) (nexts (cleared c))
-
--- H5: "CALL pushes its own address + 1 and the repeat counter; the counter itself stays."
-abbrev pub pushed : State → ℕ → State
-pushed s a =
-    stateOf (goes a (cleared (withDepth (s .core .depth + 1) (s .core))))
-    (set (s .returns) (s .core .depth) (s .core .address .0 + 1)) (set (s .counters) (s .core .depth) (s .core .counter)) (s .waits) (s .totals)
-
--- "31 CALL taken with 16 on the stack"
-unfoldable pub callOf : State → ℕ → Did
-callOf s a =
-    pick (acts (s .core .condition))
-    (pick (ltb (s .core .depth) stackDepth) (moves (pushed s a)) (stop 31 s))
-    (moves (withCore (nexts (cleared (s .core))) s))
-
--- H5: "RETURN pops both"; unused entries of the stack are zero
-abbrev pub popped : State → ℕ → State
-popped s top =
-    stateOf (goes (getD (s .returns) top 0) (cleared (withDepth top (withCounter (getD (s .counters) top 0) (s .core)))))
-    (set (s .returns) top 0) (set (s .counters) top 0) (s .waits) (s .totals)
-
--- "32 RETURN taken with none"
-unfoldable pub returnOf : State → Did
-returnOf s =
-    pick (acts (s .core .condition))
-    (pick (ltb 0 (s .core .depth)) (moves (popped s (s .core .depth - 1))) (stop 32 s))
-    (moves (withCore (nexts (cleared (s .core))) s))
-
--- "LOAD_CMP takes the next message, or ends with 42."
-unfoldable pub messageOf : List ℕ → State → Did
-messageOf messages s =
-    pick (ltb (s .core .used) (length messages))
-    (moves (withCore (nexts (withMessage (s .core .used + 1) (getD messages (s .core .used) 0) (s .core))) s))
-    (stop 42 s)
+use Rattle.jumps.specs.State.{Fixed, Did, stateOf, withSent, withCounter, withCore, refusedBy, stop, moves}
+use Rattle.jumps.specs.Jumps.{nexts, repeatOf, compareOf, gotoOf, callOf, returnOf, messageOf, holdOf}
+use Rattle.jumps.specs.declared.Core.{Core}
+use Rattle.jumps.specs.declared.State.{State}
 
 -- ---- dispatch
-
--- "One with its write flag low is held"
-abbrev pub holdOf : Core → Core
-holdOf c = nexts (withSent (c .sent) (c .held + 1) c)
 
 -- "the next with it high sends the held ones and itself, in order, together"
 abbrev pub groupOf : Fixed → Core → List ℕ

@@ -1,327 +1,33 @@
-// One step of a sequence on the module's instruction set, and the state that it moves.
+// One step of a sequence on the module's instruction set.
 // The core goes by value and the arrays are lent beside it: measured, this runs as plain C does.
 ghost use mathlib.Core.Path.{_≡_};
 ghost use mathlib.Core.Bool.{true, false};
 ghost use mathlib.Core.List.{List};
-ghost use Prim.Native.Nat.{ℕ, _+_, _<_};
+ghost use Prim.Native.Nat.{ℕ};
 ghost use lib.ListN.{length};
 ghost use lib.Dec.{eqb};
 ghost use Rattle.instruction.specs.Bits.{pick};
 ghost use Rattle.instruction.specs.Table.{codeOf};
-ghost use Rattle.sequence.specs.Bounds.{budgetLimit};
 ghost use Rattle.dispatch.specs.Engines.{engineCount};
-ghost use Rattle.machine.specs.State.{fixedBy, stateOf, freshCore, withMessage, withSent, withCounter, withCondition, stopped, Done, Traced};
-ghost use Rattle.machine.specs.Step.{goes, nexts, repeatOf, compares, compareOf, acts, gotoOf, callOf, returnOf, messageOf, holdOf, sendOf, anyAbove, actOf, breaksGroup, executeOf, stepOf};
-ghost use Rattle.machine.specs.declared.Setting.{Setting};
-ghost use Rattle.machine.specs.Kept.{Counts, Holds, Returns, Sends, Ready, At, goesOut, groupRefused};
+ghost use Rattle.jumps.specs.State.{fixedBy, stateOf, Traced};
+ghost use Rattle.jumps.specs.declared.Setting.{Setting};
+ghost use Rattle.machine.specs.Step.{sendOf, anyAbove, actOf, breaksGroup, executeOf, stepOf};
+ghost use Rattle.machine.specs.Kept.{Sends, Ready, At, goesOut, groupRefused};
 use dispatch::Engines;
 use dispatch::dispatch;
 use instruction::Body;
-use instruction::Comparison;
 use instruction::Instruction;
 use instruction::QuadSamples;
-use instruction::Refusal;
-use instruction::WordAddress;
+use jumps::Core;
+use jumps::Setting;
+use jumps::Stepped;
+use jumps::call;
+use jumps::message;
+use jumps::ret;
 use reader::Reading;
 use reader::instruction_in;
 use reader::refusal_of;
 use sequence::Sequence;
-
-pub enum Condition {
-    Absent,
-    Fails,
-    Holds,
-}
-
-// All of the state that is no array.
-pub struct Core {
-    pub address: WordAddress,
-    pub steps: u64,
-    pub used: u64,
-    pub sent: u64,
-    pub counter: u64,
-    pub register: u64,
-    pub condition: Condition,
-    pub held: u64,
-    pub depth: u64,
-}
-
-pub struct State {
-    pub core: Core,
-    pub returns: [u64; Sequence::STACK as usize],
-    pub counters: [u64; Sequence::STACK as usize],
-    pub waits: [u64; Engines::COUNT],
-    pub totals: [u64; Engines::COUNT],
-}
-
-// What is fixed in a run beside its words, messages and trace.
-pub struct Setting {
-    pub wave: QuadSamples,
-    pub triggers: u64,
-}
-
-// How a step ended, 0 where it moved, and the core then.
-pub struct Stepped {
-    pub end: Refusal,
-    pub core: Core,
-}
-
-impl Stepped {
-    pub const TRIGGER_AWAITED: u64 = 41;
-
-    pub const MESSAGE_AWAITED: u64 = 42;
-
-    pub const TRACE_FULL: u64 = 43;
-
-    pub fn stop(number: u64, core: Core) -> Stepped
-        ensures { λ r. ⌜ r ≡ stopped number core ⌝ }
-    {
-        let end = Refusal { number };
-        Stepped { end, core }
-    }
-
-    fn moves(core: Core) -> Stepped
-        ensures { λ r. ⌜ r ≡ stopped 0 core ⌝ }
-    {
-        Stepped {
-            end: Refusal { number: 0 },
-            core,
-        }
-    }
-}
-
-impl Condition {
-    // A jump is taken.
-    fn acts(self) -> bool
-        ensures { λ r. ⌜ r ≡ acts self ⌝ }
-    {
-        match self {
-            Condition::Absent => true,
-            Condition::Fails => false,
-            Condition::Holds => true,
-        }
-    }
-
-    fn of(holds: bool) -> Condition
-        ensures { λ r. ⌜ r ≡ pick holds Condition.Holds Condition.Fails ⌝ }
-    {
-        if holds {
-            Condition::Holds
-        } else {
-            Condition::Fails
-        }
-    }
-}
-
-impl Core {
-    pub fn fresh() -> Core
-        ensures { λ r. ⌜ r ≡ freshCore ⌝ }
-    {
-        Core {
-            address: WordAddress(0),
-            steps: 0,
-            used: 0,
-            sent: 0,
-            counter: 0,
-            register: 0,
-            condition: Condition::Absent,
-            held: 0,
-            depth: 0,
-        }
-    }
-
-    fn with_condition(self, condition: Condition) -> Core
-        ensures { λ r. ⌜ r ≡ withCondition condition self ⌝ }
-    {
-        let address = self.address;
-        Core {
-            address,
-            steps: self.steps,
-            used: self.used,
-            sent: self.sent,
-            counter: self.counter,
-            register: self.register,
-            condition,
-            held: self.held,
-            depth: self.depth,
-        }
-    }
-
-    fn goes(mut self, to: WordAddress) -> Core
-        requires { ⌜ self .steps < budgetLimit ⌝ }
-        ensures { λ r. ⌜ r ≡ goes (to .0) self ⌝ }
-    {
-        self.address = to;
-        self.steps = self.steps + 1;
-        self
-    }
-
-    fn nexts(self) -> Core
-        requires { ⌜ Counts self ⌝ }
-        ensures { λ r. ⌜ r ≡ nexts self ⌝ }
-    {
-        self.goes(WordAddress(self.address.0 + 1))
-    }
-
-    // H3.
-    fn repeat(mut self, to: WordAddress) -> Core
-        requires { ⌜ Counts self ⌝ }
-        ensures { λ r. ⌜ r ≡ repeatOf self (to .0) ⌝ }
-    {
-        let counter = self.counter;
-        let on = WordAddress(self.address.0 + 1);
-        if counter == 0 {
-            return self.goes(on);
-        }
-        self.counter = counter - 1;
-        self.goes(to)
-    }
-
-    // H4.
-    fn compare(self, x: Comparison) -> Core
-        requires { ⌜ Counts self ⌝ }
-        ensures { λ r. ⌜ r ≡ compareOf self x ⌝ }
-    {
-        let holds = holds(x.code, self.register, x.mask);
-        self.nexts().with_condition(Condition::of(holds))
-    }
-
-    fn goto(self, to: WordAddress) -> Core
-        requires { ⌜ Counts self ⌝ }
-        ensures { λ r. ⌜ r ≡ gotoOf self (to .0) ⌝ }
-    {
-        let condition = self.condition;
-        if condition.acts() {
-            self.goes(to).with_condition(Condition::Absent)
-        } else {
-            self.nexts().with_condition(Condition::Absent)
-        }
-    }
-
-    fn hold(mut self) -> Core
-        requires { ⌜ Holds self ⌝ }
-        ensures { λ r. ⌜ r ≡ holdOf self ⌝ }
-    {
-        self.held = self.held + 1;
-        self.nexts()
-    }
-
-    fn takes(mut self, message: u64, used: u64) -> Core
-        requires { ⌜ Counts self ⌝ }
-        ensures { λ r. ⌜ r ≡ nexts (withMessage used message self) ⌝ }
-    {
-        self.register = message;
-        self.used = used;
-        self.nexts()
-    }
-
-    // A group that ends here has gone out.
-    fn sends(mut self, sent: u64) -> Core
-        requires { ⌜ Counts self ⌝ }
-        ensures { λ r. ⌜ r ≡ nexts (withSent sent 0 self) ⌝ }
-    {
-        self.sent = sent;
-        self.held = 0;
-        self.nexts()
-    }
-
-    fn loads(mut self, counter: u64) -> Core
-        requires { ⌜ Counts self ⌝ }
-        ensures { λ r. ⌜ r ≡ nexts (withCounter counter self) ⌝ }
-    {
-        self.counter = counter;
-        self.nexts()
-    }
-}
-
-// CMP: register on the left, mask on the right.
-fn holds(code: u64, register: u64, mask: u64) -> bool
-    ensures { λ r. ⌜ r ≡ compares code register mask ⌝ }
-{
-    if code == Comparison::EQUAL {
-        return register == mask;
-    }
-    if code == Comparison::UNEQUAL {
-        return register != mask;
-    }
-    if code == Comparison::ABOVE {
-        return mask < register;
-    }
-    register < mask
-}
-
-// H5, and 31.
-fn call(
-    returns: &mut [u64; Sequence::STACK as usize],
-    counters: &mut [u64; Sequence::STACK as usize],
-    s: Core,
-    to: WordAddress,
-) -> Stepped
-    requires { ⌜ Counts s ⌝ }
-    ensures { λ r. ⌜ ((ws ts : List ℕ) → Done (callOf (stateOf s (now (returns .entry)) (now (counters .entry)) ws ts) (to .0)) r (now (returns .exit)) (now (counters .exit)) ws ts) ⌝ }
-{
-    let condition = s.condition;
-    if !condition.acts() {
-        return Stepped::moves(s.nexts().with_condition(Condition::Absent));
-    }
-    let depth = s.depth;
-    if Sequence::STACK <= depth {
-        return Stepped::stop(Sequence::STACK_FULL, s);
-    }
-    let top = depth as usize;
-    returns[top] = s.address.0 + 1;
-    counters[top] = s.counter;
-    let mut deeper = s;
-    deeper.depth = depth + 1;
-    Stepped::moves(deeper.goes(to).with_condition(Condition::Absent))
-}
-
-// H5, and 32.
-fn ret(
-    returns: &mut [u64; Sequence::STACK as usize],
-    counters: &mut [u64; Sequence::STACK as usize],
-    s: Core,
-) -> Stepped
-    requires { ⌜ Returns s ⌝ }
-    ensures { λ r. ⌜ ((ws ts : List ℕ) → Done (returnOf (stateOf s (now (returns .entry)) (now (counters .entry)) ws ts)) r (now (returns .exit)) (now (counters .exit)) ws ts) ⌝ }
-{
-    let condition = s.condition;
-    if !condition.acts() {
-        return Stepped::moves(s.nexts().with_condition(Condition::Absent));
-    }
-    let depth = s.depth;
-    if depth == 0 {
-        return Stepped::stop(Sequence::STACK_EMPTY, s);
-    }
-    let less = depth - 1;
-    let top = less as usize;
-    let to = returns[top];
-    let mut back = s;
-    back.counter = counters[top];
-    back.depth = less;
-    returns[top] = 0;
-    counters[top] = 0;
-    Stepped::moves(back.goes(WordAddress(to)).with_condition(Condition::Absent))
-}
-
-// LOAD_CMP, and 42.
-fn message(messages: &[u8], s: Core) -> Stepped
-    requires { ⌜ Counts s ⌝ }
-    ensures { λ r. ⌜ ((rs cs ws ts : List ℕ) → Done (messageOf (now (messages .entry)) (stateOf s rs cs ws ts)) r rs cs ws ts) ⌝ }
-{
-    let used = s.used;
-    let next = used as usize;
-    if messages.len() <= next {
-        return Stepped::stop(Stepped::MESSAGE_AWAITED, s);
-    }
-    Stepped::moves(s.takes(wide(messages[next]), used + 1))
-}
-
-fn wide(x: u8) -> u64
-    ensures { λ r. ⌜ r ≡ x ⌝ }
-{
-    x as u64
-}
 
 // The held words and this one go out together, or 43.
 fn send(

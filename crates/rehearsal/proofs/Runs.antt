@@ -15,12 +15,12 @@ use Rattle.instruction.specs.declared.Refusal.{Refusal}
 use Rattle.sequence.specs.Bounds.{budgetLimit, lengthsRefused}
 use Rattle.buffer.specs.Put.{put}
 use Rattle.buffer.proofs.Laws.{put-none, length-put, put-put, put-front}
-use Rattle.machine.specs.State.{Fixed, fixedBy, Did, stateOf, fresh, stop, stopped, Traced}
+use Rattle.jumps.specs.State.{Fixed, fixedBy, Did, stateOf, fresh, stop, stopped, Traced}
+use Rattle.jumps.specs.declared.Setting.{Setting}
+use Rattle.jumps.specs.declared.State.{State}
+use Rattle.jumps.specs.declared.Stepped.{Stepped}
 use Rattle.machine.specs.Step.{stepOf}
 use Rattle.machine.specs.Kept.{Good, Ready}
-use Rattle.machine.specs.declared.Setting.{Setting}
-use Rattle.machine.specs.declared.State.{State}
-use Rattle.machine.specs.declared.Stepped.{Stepped}
 use Rattle.machine.proofs.Kept.{kept, fresh-good}
 use Rattle.rehearsal.specs.Run.{onto, thenDid, runOf, inputRefused, rehearse, Rehearsed, CanGo}
 

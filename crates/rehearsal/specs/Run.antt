@@ -8,10 +8,10 @@ use lib.Dec.{ltb, eqb}
 use lib.ListN.{length, drop}
 use Rattle.instruction.specs.Bits.{pick, _gives_else_}
 use Rattle.sequence.specs.Bounds.{budgetLimit, lengthsRefused}
-use Rattle.machine.specs.State.{Fixed, Did, fresh, stop}
+use Rattle.jumps.specs.State.{Fixed, Did, fresh, stop}
+use Rattle.jumps.specs.declared.State.{State}
 use Rattle.machine.specs.Step.{stepOf}
 use Rattle.machine.specs.Kept.{Good}
-use Rattle.machine.specs.declared.State.{State}
 use Rattle.rehearsal.specs.declared.Answer.{Answer}
 
 -- what d did, after words that were dispatched before it

@@ -3,15 +3,15 @@
 ghost use mathlib.Core.Path.{_≡_};
 ghost use lib.ListN.{length};
 ghost use Rattle.instruction.specs.Form.{numbered};
-ghost use Rattle.machine.specs.State.{fixedBy, stateOf, fresh, Traced};
+ghost use Rattle.jumps.specs.State.{fixedBy, stateOf, fresh, Traced};
 ghost use Rattle.rehearsal.specs.Run.{runOf, inputRefused, rehearse, Rehearsed, CanGo};
 use dispatch::Engines;
 use instruction::QuadSamples;
 use instruction::Refusal;
-use machine::Core;
-use machine::Setting;
-use machine::State;
-use machine::Stepped;
+use jumps::Core;
+use jumps::Setting;
+use jumps::State;
+use jumps::Stepped;
 use machine::step;
 use sequence::Sequence;
 

@@ -4,9 +4,9 @@ use crate::told::say;
 use crate::told::say_number;
 use crate::told::say_pair;
 use dispatch::Engines;
-use machine::Condition;
-use machine::Core;
-use machine::State;
+use jumps::Condition;
+use jumps::Core;
+use jumps::State;
 use sequence::Sequence;
 
 fn say_condition(condition: Condition) {

@@ -4,10 +4,11 @@ use mathlib.Core.Bool.{true}
 use mathlib.Core.Logic.{⊎-elim}
 use denote.Ref.{now}
 use native.Mathlib.Omega.{arith}
-use Rattle.machine.specs.State.{stopped}
+use Rattle.jumps.specs.State.{stopped}
+use Rattle.jumps.proofs.Laws.{moved-done, call-quiet, return-quiet, message-quiet}
 use Rattle.machine.specs.Step.{actOf}
 use Rattle.machine.specs.Kept.{goesOut}
-use Rattle.machine.proofs.Laws.{quiet, moved-done, call-quiet, return-quiet, message-quiet, sends-of}
+use Rattle.machine.proofs.Laws.{quiet, sends-of}
 use borrow.Author.Needs.{needs}
 use Rattle.machine.proofs.act.Statement.{statement}
 use Rattle.machine.proofs.act.Tie as tie

@@ -2,9 +2,10 @@
 use mathlib.Core.Path.{refl, sym, _∙_}
 use denote.Ref.{now}
 use lib.ListN.{length}
-use Rattle.machine.specs.State.{Fixed, fixedBy, stateOf}
-use Rattle.machine.specs.declared.State.{State}
-use Rattle.machine.proofs.Laws.{quiet, stopped-done, execute-placed, execute-acts, group-refused, group-whole}
+use Rattle.jumps.specs.State.{Fixed, fixedBy, stateOf}
+use Rattle.jumps.specs.declared.State.{State}
+use Rattle.jumps.proofs.Laws.{stopped-done}
+use Rattle.machine.proofs.Laws.{quiet, execute-placed, execute-acts, group-refused, group-whole}
 use borrow.Author.Needs.{needs}
 use Rattle.machine.proofs.execute.Statement.{statement}
 use Rattle.machine.proofs.execute.Tie as tie

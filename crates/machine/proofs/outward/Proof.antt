@@ -4,8 +4,9 @@ use mathlib.Core.Bool.{Bool, _&&_}
 use denote.Ref.{now}
 use lib.Dec.{eqb}
 use lib.ListN.{length}
-use Rattle.machine.specs.State.{fixedBy, stateOf, stopped}
-use Rattle.machine.proofs.Laws.{quiet, moved-done, stopped-done, out-awaits, out-held, out-sent}
+use Rattle.jumps.specs.State.{fixedBy, stateOf, stopped}
+use Rattle.jumps.proofs.Laws.{moved-done, stopped-done}
+use Rattle.machine.proofs.Laws.{quiet, out-awaits, out-held, out-sent}
 use borrow.Author.Needs.{needs}
 use Rattle.machine.proofs.outward.Statement.{statement}
 use Rattle.machine.proofs.outward.Tie as tie

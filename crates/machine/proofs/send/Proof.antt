@@ -3,9 +3,10 @@ use mathlib.Core.Path.{refl, ap, _∙_}
 use denote.Ref.{now}
 use native.Mathlib.Omega.{arith}
 use lib.ListN.{length}
-use Rattle.machine.specs.State.{fixedBy, stateOf, stopped}
-use Rattle.machine.specs.declared.Stepped.{Stepped}
-use Rattle.machine.proofs.Laws.{quiet, stopped-done, send-full, send-whole}
+use Rattle.jumps.specs.State.{fixedBy, stateOf, stopped}
+use Rattle.jumps.specs.declared.Stepped.{Stepped}
+use Rattle.jumps.proofs.Laws.{stopped-done}
+use Rattle.machine.proofs.Laws.{quiet, send-full, send-whole}
 use borrow.Author.Needs.{needs}
 use Rattle.machine.proofs.send.Statement.{statement}
 use Rattle.machine.proofs.send.Tie as tie

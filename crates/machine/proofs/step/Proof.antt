@@ -4,8 +4,9 @@ use denote.Ref.{now}
 use lib.ListN.{length}
 use Rattle.reader.specs.Reading.{refusalOf}
 use Rattle.reader.proofs.Laws.{put-together}
-use Rattle.machine.specs.State.{fixedBy, stateOf}
-use Rattle.machine.proofs.Laws.{quiet, stopped-done, refused-done, step-past, step-refused, step-accepted}
+use Rattle.jumps.specs.State.{fixedBy, stateOf}
+use Rattle.jumps.proofs.Laws.{stopped-done}
+use Rattle.machine.proofs.Laws.{quiet, refused-done, step-past, step-refused, step-accepted}
 use borrow.Author.Needs.{needs}
 use Rattle.machine.proofs.step.Statement.{statement}
 use Rattle.machine.proofs.step.Tie as tie

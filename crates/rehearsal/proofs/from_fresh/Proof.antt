@@ -2,8 +2,8 @@
 use mathlib.Core.Path.{sym, subst}
 use denote.Ref.{now}
 use lib.ListN.{length, replicate}
-use Rattle.machine.specs.State.{Fixed, fixedBy, stateOf, Traced}
-use Rattle.machine.specs.declared.Core.{Core}
+use Rattle.jumps.specs.State.{Fixed, fixedBy, stateOf, Traced}
+use Rattle.jumps.specs.declared.Core.{Core}
 use Rattle.rehearsal.specs.Run.{CanGo, runOf}
 use Rattle.rehearsal.proofs.Runs.{rehearsed}
 use borrow.Author.Needs.{needs}

@@ -4,7 +4,7 @@ use denote.Ref.{now}
 use native.Mathlib.Omega.{arith}
 use borrow.Author.Needs.{needs}
 use lib.ListN.{length}
-use Rattle.machine.specs.State.{fixedBy, stateOf}
+use Rattle.jumps.specs.State.{fixedBy, stateOf}
 use Rattle.rehearsal.proofs.Runs.{Along, along-start, along-length, along-step, along-stop, along-spent, loop-ready, loop-traced}
 use Rattle.rehearsal.proofs.go_on.Statement.{statement}
 use Rattle.rehearsal.proofs.go_on.Tie as tie

@@ -2,7 +2,7 @@
 use mathlib.Core.Path.{refl, sym, _∙_}
 use denote.Ref.{now}
 use lib.ListN.{length}
-use Rattle.machine.specs.State.{fixedBy}
+use Rattle.jumps.specs.State.{fixedBy}
 use Rattle.rehearsal.proofs.Runs.{rehearse-refused, rehearse-runs, can-go}
 use borrow.Author.Needs.{needs}
 use Rattle.rehearsal.proofs.run.Statement.{statement}

@@ -1,8 +1,8 @@
 -- The fresh state, with the number.
 use mathlib.Core.Path.{ap}
 use Rattle.rehearsal.specs.declared.Answer.{Answer}
-use Rattle.machine.specs.State.{stateOf}
-use Rattle.machine.specs.declared.Core.{Core}
+use Rattle.jumps.specs.State.{stateOf}
+use Rattle.jumps.specs.declared.Core.{Core}
 use lib.ListN.{replicate}
 use borrow.Author.Needs.{needs}
 use Rattle.rehearsal.proofs.Answer.refused.Statement.{statement}

@@ -1,8 +1,8 @@
 -- H3, by the counter.
 use borrow.Author.Tests.{eq-eqb, ne-eqb}
 use borrow.Author.Needs.{needs}
-use Rattle.machine.proofs.Core.repeat.Statement.{statement}
-use Rattle.machine.proofs.Core.repeat.Tie as tie
+use Rattle.jumps.proofs.Core.repeat.Statement.{statement}
+use Rattle.jumps.proofs.Core.repeat.Tie as tie
 
 add-t5 : tie.Need-add-t5
 add-t5 c = search needs

@@ -3,12 +3,12 @@ use borrow.Author.Tests.{not-true, not-false}
 use mathlib.Core.Path.{sym, ap, _∙_}
 use denote.Ref.{now}
 use native.Mathlib.Omega.{arith}
-use Rattle.machine.specs.State.{stateOf, withCondition, stopped}
-use Rattle.machine.specs.declared.Condition.the-variants.{Absent}
-use Rattle.machine.proofs.Laws.{moved-done, stopped-done, return-not, return-none, return-taken}
+use Rattle.jumps.specs.State.{stateOf, withCondition, stopped}
+use Rattle.jumps.specs.declared.Condition.the-variants.{Absent}
+use Rattle.jumps.proofs.Laws.{moved-done, stopped-done, return-not, return-none, return-taken}
 use borrow.Author.Needs.{needs}
-use Rattle.machine.proofs.ret.Statement.{statement}
-use Rattle.machine.proofs.ret.Tie as tie
+use Rattle.jumps.proofs.ret.Statement.{statement}
+use Rattle.jumps.proofs.ret.Tie as tie
 
 acts-requires : tie.Need-acts-requires
 acts-requires c κs = search needs

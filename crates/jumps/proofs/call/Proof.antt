@@ -2,12 +2,12 @@
 use borrow.Author.Tests.{not-true, not-false}
 use mathlib.Core.Path.{sym, ap, _∙_}
 use denote.Ref.{now}
-use Rattle.machine.specs.State.{stateOf, withCondition, stopped}
-use Rattle.machine.specs.declared.Condition.the-variants.{Absent}
-use Rattle.machine.proofs.Laws.{moved-done, stopped-done, call-not, call-full, call-taken}
+use Rattle.jumps.specs.State.{stateOf, withCondition, stopped}
+use Rattle.jumps.specs.declared.Condition.the-variants.{Absent}
+use Rattle.jumps.proofs.Laws.{moved-done, stopped-done, call-not, call-full, call-taken}
 use borrow.Author.Needs.{needs}
-use Rattle.machine.proofs.call.Statement.{statement}
-use Rattle.machine.proofs.call.Tie as tie
+use Rattle.jumps.proofs.call.Statement.{statement}
+use Rattle.jumps.proofs.call.Tie as tie
 
 acts-requires : tie.Need-acts-requires
 acts-requires c κs = search needs

@@ -2,12 +2,12 @@
 use mathlib.Core.Path.{ap, _∙_}
 use Prim.Native.Nat.{ℕ, _+_}
 use denote.Ref.{now}
-use Rattle.machine.specs.State.{stateOf, withMessage, stopped}
-use Rattle.machine.specs.Step.{nexts}
-use Rattle.machine.proofs.Laws.{moved-done, stopped-done, message-none, message-taken}
+use Rattle.jumps.specs.State.{stateOf, withMessage, stopped}
+use Rattle.jumps.specs.Jumps.{nexts}
+use Rattle.jumps.proofs.Laws.{moved-done, stopped-done, message-none, message-taken}
 use borrow.Author.Needs.{needs}
-use Rattle.machine.proofs.message.Statement.{statement}
-use Rattle.machine.proofs.message.Tie as tie
+use Rattle.jumps.proofs.message.Statement.{statement}
+use Rattle.jumps.proofs.message.Tie as tie
 
 stop-requires : tie.Need-stop-requires
 stop-requires c κs = search needs

@@ -1,7 +1,7 @@
 -- Each code in its turn.
 use borrow.Author.Tests.{ne-eqb}
-use Rattle.machine.proofs.holds.Statement.{statement}
-use Rattle.machine.proofs.holds.Tie as tie
+use Rattle.jumps.proofs.holds.Statement.{statement}
+use Rattle.jumps.proofs.holds.Tie as tie
 
 returns : tie.Need-returns
 returns c = rw (c .if1 .taken)

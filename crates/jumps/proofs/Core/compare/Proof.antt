@@ -2,13 +2,13 @@
 use mathlib.Core.Path.{ap, ap₂, _∙_}
 use mathlib.Core.Bool.{Bool}
 use Rattle.instruction.specs.Bits.{pick}
-use Rattle.machine.specs.State.{withCondition}
-use Rattle.machine.specs.declared.Condition.{Condition}
-use Rattle.machine.specs.declared.Condition.the-variants.{Holds, Fails}
-use Rattle.machine.specs.declared.Core.{Core}
+use Rattle.jumps.specs.State.{withCondition}
+use Rattle.jumps.specs.declared.Condition.{Condition}
+use Rattle.jumps.specs.declared.Condition.the-variants.{Holds, Fails}
+use Rattle.jumps.specs.declared.Core.{Core}
 use borrow.Author.Needs.{needs}
-use Rattle.machine.proofs.Core.compare.Statement.{statement}
-use Rattle.machine.proofs.Core.compare.Tie as tie
+use Rattle.jumps.proofs.Core.compare.Statement.{statement}
+use Rattle.jumps.proofs.Core.compare.Tie as tie
 
 holds-requires : tie.Need-holds-requires
 holds-requires c κs = search needs

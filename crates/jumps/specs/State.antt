@@ -9,12 +9,12 @@ use Rattle.instruction.specs.declared.Refusal.{Refusal}
 use Rattle.sequence.specs.Bounds.{stackDepth}
 use Rattle.dispatch.specs.Engines.{engineCount}
 use Rattle.buffer.specs.Put.{put}
-use Rattle.machine.specs.declared.Condition.{Condition}
-use Rattle.machine.specs.declared.Condition.the-variants.{Absent}
-use Rattle.machine.specs.declared.Core.{Core}
-use Rattle.machine.specs.declared.State.{State}
-use Rattle.machine.specs.declared.Setting.{Setting}
-use Rattle.machine.specs.declared.Stepped.{Stepped}
+use Rattle.jumps.specs.declared.Condition.{Condition}
+use Rattle.jumps.specs.declared.Condition.the-variants.{Absent}
+use Rattle.jumps.specs.declared.Core.{Core}
+use Rattle.jumps.specs.declared.State.{State}
+use Rattle.jumps.specs.declared.Setting.{Setting}
+use Rattle.jumps.specs.declared.Stepped.{Stepped}
 
 -- what stays the same in a run: the words, the messages, the room in the trace, and the setting (W and triggers)
 pub record Fixed : Type 0 where

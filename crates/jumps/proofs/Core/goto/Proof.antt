@@ -1,10 +1,10 @@
 -- H4, by the condition.
 use mathlib.Core.Path.{sym, ap, _∙_}
-use Rattle.machine.specs.State.{withCondition}
-use Rattle.machine.specs.declared.Condition.the-variants.{Absent}
+use Rattle.jumps.specs.State.{withCondition}
+use Rattle.jumps.specs.declared.Condition.the-variants.{Absent}
 use borrow.Author.Needs.{needs}
-use Rattle.machine.proofs.Core.goto.Statement.{statement}
-use Rattle.machine.proofs.Core.goto.Tie as tie
+use Rattle.jumps.proofs.Core.goto.Statement.{statement}
+use Rattle.jumps.proofs.Core.goto.Tie as tie
 
 acts-requires : tie.Need-acts-requires
 acts-requires c κs = search needs
