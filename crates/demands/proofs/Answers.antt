@@ -1,13 +1,14 @@
 -- `one-answer-..`, for each public function: its contract leaves one answer, and one content of what is lent to it.
 -- Assumes nothing.
-use mathlib.Core.Path.{sym, _∙_}
+use mathlib.Core.Path.{refl, sym, _∙_}
 use mathlib.Core.List.{List, []}
 use Prim.Native.Nat.{ℕ}
 use Rattle.jumps.specs.State.{Did, stateOf, Done}
 use Rattle.jumps.specs.Jumps.{callOf, returnOf}
 use Rattle.jumps.specs.declared.Stepped.{Stepped}
+use Rattle.look.specs.Closed.{holds, fails}
 use Rattle.verdict.proofs.Unique as unique
-use Rattle.demands.specs.Answers.{One, OneEqual, OneRead, OneWrite, OneRun, OneCheck, OneList, OneStep, OneCall, OneReturn, OneMessage, OneDispatch, OneWalk, OneSeen, OneJudge}
+use Rattle.demands.specs.Answers.{One, OneEqual, OneRead, OneWrite, OneRun, OneCheck, OneList, OneStep, OneCall, OneReturn, OneMessage, OneDispatch, OneLook, OneWalk, OneSeen, OneJudge}
 
 pub one-answer-equation : OneEqual
 one-answer-equation A d r r′ p q = p ∙ sym q
@@ -67,6 +68,12 @@ one-answer-dispatch out k trace waits totals r r′ p q =
     let w = p .waits ∙ sym (q .waits) in
     let n = p .totals ∙ sym (q .totals) in
     λ i. (t i, w i, n i)
+
+pub one-answer-look : OneLook
+one-answer-look P r r′ (holds p) (holds q) = refl
+one-answer-look P r r′ (holds p) (fails q) = absurd (q p)
+one-answer-look P r r′ (fails p) (holds q) = absurd (p q)
+one-answer-look P r r′ (fails p) (fails q) = refl
 
 pub one-answer-walk : OneWalk
 one-answer-walk limit words marks r r′ p q = unique.one-marks limit words marks r r′ (p .long ∙ sym (q .long)) (p .exact) (q .exact) (p .tail) (q .tail)

@@ -1,6 +1,7 @@
 -- "that contract leaves one possible answer and one content of marks and trace" (document 01, "What the contracts settle"), for each public function.
 -- Each statement is about the contract as the function's source has it; C's four are in aps2_c.
 use mathlib.Core.Path.{_≡_}
+use mathlib.Core.Bool.{Bool}
 use mathlib.Core.List.{List}
 use Prim.Native.Nat.{ℕ, _≤_}
 use Rattle.instruction.specs.declared.Instruction.{Instruction}
@@ -17,6 +18,7 @@ use Rattle.jumps.specs.declared.Stepped.{Stepped}
 use Rattle.machine.specs.Step.{stepOf}
 use Rattle.rehearsal.specs.Run.{rehearse, Rehearsed}
 use Rattle.rehearsal.specs.declared.Answer.{Answer}
+use Rattle.look.specs.Closed.{Tells}
 use Rattle.walk.specs.Marks.{Marked, Settled}
 use Rattle.flow.specs.Walk.{deepest}
 use Rattle.verdict.specs.Flow.{FlowIs}
@@ -73,6 +75,10 @@ OneMessage = (messages : List ℕ) (s : Core) → One Stepped (λ r. (rs cs ws t
 -- the dispatcher, with the trace, the waits and the totals
 abbrev pub OneDispatch : Type 0
 OneDispatch = (out : List ℕ) (k : ℕ) (trace waits totals : List ℕ) → One (List ℕ × List ℕ × List ℕ) (λ r. Dispatched out k trace waits totals (r .0) (r .1) (r .2))
+
+-- a look at an address, which tells whether it is closed, or clean
+abbrev pub OneLook : Type 1
+OneLook = (P : Type 0) → One Bool (λ r. Tells P r)
 
 -- the walk's marks
 abbrev pub OneWalk : Type 0

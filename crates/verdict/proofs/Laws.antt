@@ -20,7 +20,8 @@ use Rattle.flow.specs.Move.{moveAt}
 use Rattle.flow.specs.Walk.{deepest, On, place, Reached, Fault, past, full, empty}
 use Rattle.flow.proofs.Rules.{Leaps, goto-to, call-to, repeat-to, Walked, begin, on, over, back, walked, reached}
 use Rattle.flow.proofs.Bits.{two, zero-off, next-on, back-on, on-next}
-use Rattle.walk.specs.Marks.{faultIn, FirstFault, Exact, Returns}
+use Rattle.look.specs.Closed.{faultIn}
+use Rattle.walk.specs.Marks.{FirstFault, Exact, Returns}
 use Rattle.walk.proofs.Laws.{depth, backs-of, came-reached}
 use Rattle.instruction.specs.Bits.{_gives_else_}
 use Rattle.verdict.specs.Flow.{Targets}

@@ -6,7 +6,8 @@ use lib.ListN.{length}
 use Rattle.flow.specs.Masks.{toOf}
 use Rattle.flow.specs.Move.{moveAt}
 use Rattle.flow.specs.Walk.{Fault}
-use Rattle.walk.specs.Marks.{Fits, Exact, Returns, FirstFault}
+use Rattle.look.specs.Closed.{Fits}
+use Rattle.walk.specs.Marks.{Exact, Returns, FirstFault}
 
 -- 0 at 0 where there is no fault, else the fault at the lowest address that has one
 pub data FlowIs (limit : ℕ) (words : List ℕ) : ℕ → ℕ → Type 0 where

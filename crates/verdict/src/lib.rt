@@ -12,11 +12,11 @@ use flow::Move;
 use flow::Moves;
 use instruction::Instruction;
 use instruction::Refusal;
+use look::fault_of;
 use reader::instruction_in;
 use reader::refusal_of;
 use sequence::Sequence;
 use walk::Seen;
-use walk::fault_of;
 
 // A refusal and its place; number 0 at place 0 is accepted.
 pub struct Verdict {

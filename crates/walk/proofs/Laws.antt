@@ -3,28 +3,27 @@
 use Prim.Native.Nat.{ℕ, zero, suc, _+_, _-_, _*_, _^_, _≤_, _<_}
 use mathlib.Core.Path.{_≡_, refl, sym, ap, subst, _∙_}
 use mathlib.Core.Logic.{⊎-elim}
-use mathlib.Core.Bool.{Bool, true, false, not, _&&_}
+use mathlib.Core.Bool.{Bool, true, false}
 use mathlib.Core.List.{List, [], _∷_}
 use native.Mathlib.Nat.{le-refl, le-trans, lt-of-le-of-lt, eq-or-lt-of-le, le-of-suc-le-suc}
 use native.Mathlib.Numerals.{add-one}
 use native.Mathlib.Decide.{ℕ-discrete}
 use native.Mathlib.Omega.{arith}
-use lib.Dec.{lit<, eqb}
-use borrow.Author.Tests.{eqb-true, eqb-false}
+use lib.Dec.{lit<}
 use lib.ListN.{length, getD, set, length-set}
 use lib.Seq.{getD-set-same, getD-set-other}
 use lib.Bits.{bitOr, or-add-and, and-le-r}
-use Rattle.instruction.specs.Bits.{_gives_else_}
 use Rattle.instruction.specs.declared.WordAddress.{WordAddress}
 use Rattle.flow.specs.declared.Move.{Move}
 use Rattle.flow.specs.declared.Move.the-variants.{Other, Compare, Jump, Enter, Leave, Loop}
-use Rattle.flow.specs.declared.Moves.{Moves}
-use Rattle.flow.specs.Masks.{nextOf, jumpOf, toOf, Follows}
+use Rattle.flow.specs.Masks.{nextOf, jumpOf, toOf}
 use Rattle.flow.specs.Move.{moveAt}
 use Rattle.flow.specs.Walk.{deepest, On, place, Reached, start}
 use Rattle.flow.proofs.Rules.{Onward, plain-on, cmp-on, goto-on, call-on, return-on, repeat-on, Leaps, goto-to, call-to, repeat-to, Walked, begin, on, over, back, walked, reached}
 use Rattle.flow.proofs.Bits.{or-left, or-right, or-on, zero-off, high-off, on-bare, bare-on, bare-odd, next-on, back-on, jump-on, Came, stepped, returned, on-next, Leapt, leapt, on-jump}
-use Rattle.walk.specs.Marks.{Depths, faultIn, CleanAt, UncleanIs, FirstFault, Settled, Exact, Sound, Backs, left, rest, HoldsAt, Put, same, more, Grew, ClosedAt, Turned, moved, still, Tells, holds, fails, backIn, Returns, Cleared, Part, Ahead, Visits, VisitDone, TurnIs, onward, hint, ended, Room, NoteDone, FollowDone, Since, fresh, since, AtHand, OpenIs, closed, first, load}
+use Rattle.look.specs.Closed.{HoldsAt, ClosedAt, backIn}
+use Rattle.look.proofs.Laws.{held-zero, or-zero}
+use Rattle.walk.specs.Marks.{Depths, UncleanIs, FirstFault, Settled, Exact, Sound, Backs, left, rest, Put, same, more, Grew, Turned, moved, still, Returns, Cleared, Part, Ahead, Visits, VisitDone, TurnIs, onward, hint, ended, Room, NoteDone, FollowDone, Since, fresh, since, AtHand, OpenIs, closed, first, load}
 use Rattle.walk.specs.declared.Trail.{Trail}
 use Rattle.sequence.specs.Bounds.{wordLimit}
 
@@ -115,10 +114,6 @@ pub put-less : (n : ℕ) (ms : List ℕ) (i x : ℕ) {ns : List ℕ} {v : ℕ} �
 put-less n ms i x (same h) = le-refl (left ms)
 put-less n ms i x (more h u f) = left-set ms i (bitOr (getD ms i 0) x) (omega arith)
 
--- no bits are held everywhere
-pub held-zero : (n : ℕ) (ms : List ℕ) (i x : ℕ) → x ≡ 0 → HoldsAt n ms i x
-held-zero n ms i x z l = omega (arith, or-add-and (getD ms i 0) x, and-le-r (getD ms i 0) x, z)
-
 -- where none was set, nothing was put, and the bits are held
 put-none : (n : ℕ) (ms : List ℕ) (i x : ℕ) {ns : List ℕ} {v : ℕ} → Put n ms i x ns v → v ≡ 0 → (ns ≡ ms) × HoldsAt n ms i x
 put-none n ms i x (same h) z = (refl, h)
@@ -171,9 +166,6 @@ depths-more o m r e d p = ⊎-elim (λ q. e d q) (λ q. back-odd o m d q) (or-on
 
 pub or-up : (r x : ℕ) → r ≤ bitOr r x
 or-up r x = omega (arith, or-add-and r x, and-le-r r x)
-
-pub or-zero : (r : ℕ) → bitOr r 0 ≡ r
-or-zero r = omega (arith, or-add-and r 0, and-le-r r 0)
 
 -- a word that is no RETURN adds no depth
 pub noted-none : (o : Move) (s : Trail) → Room s → backIn o (s .mark) ≡ 0 → NoteDone o s s
@@ -375,100 +367,7 @@ clear-low ns a l all k h = go (ℕ-discrete k a)
     go (yes e) = subst (λ (z : ℕ). getD (set ns a 0) z 0 ≡ 0) (sym e) (getD-set-same ns a 0 0 l)
     go (no n) = getD-set-other ns a k 0 0 n ∙ all k (omega arith)
 
--- ---- tests
-
-pub tells-and : {a b : Bool} {P Q : Type 0} → Tells P a → Tells Q b → Tells (P × Q) (a && b)
-tells-and (holds p) (holds q) = holds (p, q)
-tells-and (holds p) (fails q) = fails (λ w. q (w .1))
-tells-and (fails p) t = fails (λ w. p (w .0))
-
-pub tells-as : {b : Bool} {P Q : Type 0} → (P → Q) → (Q → P) → Tells P b → Tells Q b
-tells-as f g (holds p) = holds (f p)
-tells-as f g (fails p) = fails (λ q. p (g q))
-
-pub tells-eq : (x y : ℕ) → Tells (x ≡ y) (eqb x y)
-tells-eq x y = go (eqb x y) refl
-  where
-    go : (b : Bool) → eqb x y ≡ b → Tells (x ≡ y) b
-    go true e = holds (eqb-true x y e)
-    go false e = fails (eqb-false x y e)
-
-pub tells-no : {P : Type 0} → Tells P false → P → ⊥
-tells-no (fails f) = f
-
-pub tells-yes : {P : Type 0} → Tells P true → P
-tells-yes (holds p) = p
-
--- an address is closed where its parts are
-module _ (lim : ℕ) (ws : List ℕ) (r : ℕ) (ms : List ℕ) (a : ℕ) (o : Move) (f : Moves) (e : o ≡ moveAt ws a) (w : Follows lim o (getD ms a 0) r f) where
-  abbrev Parts : Type 0
-  Parts = (bitOr r (backIn o (getD ms a 0)) ≡ r) × HoldsAt (length ws) ms (a + 1) (f .next) × HoldsAt (length ws) ms (f .to) (f .jump)
-
-  tells-parts : {c : Bool} → Tells Parts c → Tells (ClosedAt lim ws r ms a) c
-  tells-parts t = tells-as to from t
-    where
-      m : ℕ
-      m = getD ms a 0
-
-      next : f .next ≡ nextOf (moveAt ws a) m r
-      next = w .next ∙ ap (λ (z : Move). nextOf z m r) e
-
-      jump : f .jump ≡ jumpOf lim (moveAt ws a) m
-      jump = w .jump ∙ ap (λ (z : Move). jumpOf lim z m) e
-
-      target : f .to ≡ toOf (moveAt ws a)
-      target = w .to ∙ ap toOf e
-
-      to : Parts → ClosedAt lim ws r ms a
-      to p =
-          record {
-            met = subst (λ (z : Move). bitOr r (backIn z m) ≡ r) e (p .0);
-            next = subst (λ (z : ℕ). HoldsAt (length ws) ms (a + 1) z) next (p .1);
-            jump = subst (λ (z : ℕ). HoldsAt (length ws) ms z (jumpOf lim (moveAt ws a) m)) target (subst (λ (z : ℕ). HoldsAt (length ws) ms (f .to) z) jump (p .2));
-          }
-
-      from : ClosedAt lim ws r ms a → Parts
-      from k = (
-        subst (λ (z : Move). bitOr r (backIn z m) ≡ r) (sym e) (k .met),
-        subst (λ (z : ℕ). HoldsAt (length ws) ms (a + 1) z) (sym next) (k .next),
-        subst (λ (z : ℕ). HoldsAt (length ws) ms (f .to) z) (sym jump) (subst (λ (z : ℕ). HoldsAt (length ws) ms z (jumpOf lim (moveAt ws a) m)) (sym target) (k .jump)),
-      )
-
-  pub tells-all : {c d : Bool} → Tells (bitOr r (backIn o (getD ms a 0)) ≡ r) c → Tells (HoldsAt (length ws) ms (a + 1) (f .next) × HoldsAt (length ws) ms (f .to) (f .jump)) d → Tells (ClosedAt lim ws r ms a) (c && d)
-  tells-all t u = tells-parts (tells-as (λ h. (h .0, h .1 .0, h .1 .1)) (λ p. (p .0, (p .1, p .2))) (tells-and t u))
-
-  no-depth : backIn o (getD ms a 0) ≡ 0 → bitOr r (backIn o (getD ms a 0)) ≡ r
-  no-depth z = ap (bitOr r) z ∙ or-zero r
-
-  no-jump : jumpOf lim o (getD ms a 0) ≡ 0 → HoldsAt (length ws) ms (f .to) (f .jump)
-  no-jump z = held-zero (length ws) ms (f .to) (f .jump) (w .jump ∙ z)
-
-  pub tells-next : {c : Bool} → backIn o (getD ms a 0) ≡ 0 → jumpOf lim o (getD ms a 0) ≡ 0 → Tells (HoldsAt (length ws) ms (a + 1) (f .next)) c → Tells (ClosedAt lim ws r ms a) c
-  tells-next z y t = tells-parts (tells-as (λ h. (no-depth z, h, no-jump y)) (λ p. p .1) t)
-
-  pub tells-both : {c : Bool} → backIn o (getD ms a 0) ≡ 0 → Tells (HoldsAt (length ws) ms (a + 1) (f .next) × HoldsAt (length ws) ms (f .to) (f .jump)) c → Tells (ClosedAt lim ws r ms a) c
-  tells-both z t = tells-parts (tells-as (λ h. (no-depth z, h .0, h .1)) (λ p. (p .1, p .2)) t)
-
-  pub tells-return : (b : ℕ) {c : Bool} → b ≡ backIn o (getD ms a 0) → jumpOf lim o (getD ms a 0) ≡ 0 → Tells (HoldsAt (length ws) ms (a + 1) (f .next)) c → Tells (ClosedAt lim ws r ms a) (c && eqb (bitOr r b) r)
-  tells-return b q y t =
-      tells-parts
-      (tells-as (λ h. (subst (λ (z : ℕ). bitOr r z ≡ r) q (h .1), h .0, no-jump y)) (λ p. (p .1, subst (λ (z : ℕ). bitOr r z ≡ r) (sym q) (p .0)))
-      (tells-and t (tells-eq (bitOr r b) r)))
-
--- a word that goes on to the next address
-pub tells-plain : (lim : ℕ) (ws : List ℕ) (r : ℕ) (ms : List ℕ) (a : ℕ) {c : Bool} → moveAt ws a ≡ Other → Tells (HoldsAt (length ws) ms (a + 1) (getD ms a 0)) c → Tells (ClosedAt lim ws r ms a) c
-tells-plain lim ws r ms a e u = tells-as to from u
-  where
-    to : HoldsAt (length ws) ms (a + 1) (getD ms a 0) → ClosedAt lim ws r ms a
-    to h =
-        record {
-          met = ap (λ (z : Move). bitOr r (backIn z (getD ms a 0))) e ∙ or-zero r;
-          next = subst (λ (z : Move). HoldsAt (length ws) ms (a + 1) (nextOf z (getD ms a 0) r)) (sym e) h;
-          jump = subst (λ (z : Move). HoldsAt (length ws) ms (toOf z) (jumpOf lim z (getD ms a 0))) (sym e) (held-zero (length ws) ms 0 0 refl);
-        }
-
-    from : ClosedAt lim ws r ms a → HoldsAt (length ws) ms (a + 1) (getD ms a 0)
-    from k = subst (λ (z : Move). HoldsAt (length ws) ms (a + 1) (nextOf z (getD ms a 0) r)) e (k .next)
+-- ---- the look
 
 -- what holds below an address and at it holds below the next
 pub below-more : (P : ℕ → Type 0) (a : ℕ) → ((k : ℕ) → k < a → P k) → P a → (k : ℕ) → k < a + 1 → P k
@@ -548,21 +447,6 @@ settled lim ws r ms₀ ms t s b bs ds long tail (closed k h) l =
 settled lim ws r ms₀ ms t s b bs ds long tail (first h o) l = absurd (omega arith)
 
 -- ---- faults
-
--- a number that a test gives is 0 where it does not
-pub spared : (x n : ℕ) → (n ≡ 0 → ⊥) → Tells ((not (eqb x 0) gives n else 0) ≡ 0) (eqb x 0)
-spared x n some = go (eqb x 0)
-  where
-    go : (b : Bool) → Tells ((not b gives n else 0) ≡ 0) b
-    go true = holds refl
-    go false = fails some
-
--- an address is clean where it is closed and has no fault
-pub tells-clean : {lim : ℕ} {ws : List ℕ} {r : ℕ} {ms : List ℕ} {a : ℕ} {c d : Bool} → Tells (ClosedAt lim ws r ms a) c → Tells (faultIn lim (moveAt ws a) (getD ms a 0) ≡ 0) d → Tells (CleanAt lim ws r ms a) (c && d)
-tells-clean t u = tells-as (λ p. record { closed = p .0; good = p .1 }) (λ k. (k .closed, k .good)) (tells-and t u)
-
-pub tells-good : {lim : ℕ} {ws : List ℕ} {r : ℕ} {ms : List ℕ} {a : ℕ} {c : Bool} → Tells (ClosedAt lim ws r ms a) c → faultIn lim (moveAt ws a) (getD ms a 0) ≡ 0 → Tells (CleanAt lim ws r ms a) c
-tells-good t e = tells-as (λ k. record { closed = k; good = e }) (λ k. k .closed) t
 
 -- where all is closed, an address that is not clean faults
 pub unclean-fault : (lim : ℕ) (ws : List ℕ) (r : ℕ) (ms : List ℕ) (f : ℕ) → UncleanIs lim ws r ms f → ((k : ℕ) → k < length ws → ClosedAt lim ws r ms k) → FirstFault lim ws ms (length ws) f

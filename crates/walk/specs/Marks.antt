@@ -1,20 +1,18 @@
 -- What the marks say, and what the functions that work on them promise.
 -- A reader of the check believes `Exact` alone; the rest carries the loops.
-use Prim.Native.Nat.{ℕ, _+_, _-_, _*_, _/_, _%_, _^_, _≤_, _<_}
+use Prim.Native.Nat.{ℕ, _+_, _-_, _*_, _^_, _≤_, _<_}
 use mathlib.Core.Path.{_≡_}
-use mathlib.Core.Bool.{Bool, true, false, not}
+use mathlib.Core.Bool.{Bool}
 use mathlib.Core.List.{List, [], _∷_}
 use lib.ListN.{length, getD, set}
 use lib.Bits.{bitOr}
-use lib.Dec.{eqb}
-use Rattle.instruction.specs.Bits.{_gives_else_}
 use Rattle.sequence.specs.Bounds.{wordLimit}
 use Rattle.flow.specs.declared.Move.{Move}
-use Rattle.flow.specs.declared.Move.the-variants.{Other, Compare, Jump, Enter, Leave, Loop}
-use Rattle.walk.specs.declared.Trail.{Trail}
-use Rattle.flow.specs.Masks.{bareOf, nextOf, jumpOf, toOf}
+use Rattle.flow.specs.declared.Move.the-variants.{Leave}
 use Rattle.flow.specs.Move.{moveAt}
 use Rattle.flow.specs.Walk.{deepest, On, place, Reached}
+use Rattle.look.specs.Closed.{HoldsAt, backIn, ClosedAt, Fits, faultIn, CleanAt}
+use Rattle.walk.specs.declared.Trail.{Trail}
 
 -- the public claim: below the words' length a bit is set exactly where its place is reached
 pub record Exact (lim : ℕ) (ws ms : List ℕ) : Type 0 where
@@ -46,22 +44,10 @@ rest ms r = left ms + (2 ^ 64 - r)
 abbrev pub load : List ℕ → ℕ → ℕ → ℕ
 load ms r len = rest ms r * (wordLimit + 1) + len
 
--- the bits x are set at an address below n
-abbrev pub HoldsAt : ℕ → List ℕ → ℕ → ℕ → Type 0
-HoldsAt n ms i x = i < n → bitOr (getD ms i 0) x ≡ getD ms i 0
-
 -- bits x put at an address: the marks after, and the mark there where a bit was set
 pub data Put (n : ℕ) (ms : List ℕ) (i x : ℕ) : List ℕ → ℕ → Type 0 where
   same : HoldsAt n ms i x → Put n ms i x ms 0
   more : i < n → getD ms i 0 < bitOr (getD ms i 0) x → getD ms i 0 < 2 ^ 64 → Put n ms i x (set ms i (bitOr (getD ms i 0) x)) (bitOr (getD ms i 0) x)
-
-abbrev pub backIn : Move → ℕ → ℕ
-backIn Other m = 0
-backIn Compare m = 0
-backIn (Jump t) m = 0
-backIn (Enter t) m = 0
-backIn Leave m = bareOf m
-backIn (Loop t) m = 0
 
 -- the marks ns and the depths q of RETURN grew out of ms and r, by what is reached if those are
 pub record Grew (lim : ℕ) (ws : List ℕ) (r : ℕ) (ms : List ℕ) (q : ℕ) (ns : List ℕ) : Type 0 where
@@ -73,21 +59,10 @@ pub record Grew (lim : ℕ) (ws : List ℕ) (r : ℕ) (ms : List ℕ) (q : ℕ) 
   pub backs : Backs lim ws r → Sound lim ws ms → Backs lim ws q
   pub depths : Depths r → Depths q
 
--- all that address a leads to is marked, and its depths are known where it is a RETURN
-pub record ClosedAt (lim : ℕ) (ws : List ℕ) (r : ℕ) (ms : List ℕ) (a : ℕ) : Type 0 where
-  pub met : bitOr r (backIn (moveAt ws a) (getD ms a 0)) ≡ r
-  pub next : HoldsAt (length ws) ms (a + 1) (nextOf (moveAt ws a) (getD ms a 0) r)
-  pub jump : HoldsAt (length ws) ms (toOf (moveAt ws a)) (jumpOf lim (moveAt ws a) (getD ms a 0))
-
 -- a visit of address a set a bit, or a was closed
 pub data Turned (lim : ℕ) (ws : List ℕ) (r : ℕ) (ms : List ℕ) (q : ℕ) (ns : List ℕ) (a : ℕ) : Type 0 where
   moved : rest ns q < rest ms r → Turned lim ws r ms q ns a
   still : ClosedAt lim ws r ms a → Turned lim ws r ms q ns a
-
--- a test tells whether something holds
-pub data Tells (P : Type 0) : Bool → Type 0 where
-  holds : P → Tells P true
-  fails : (P → ⊥) → Tells P false
 
 -- r has the depths at which a RETURN below n is marked
 pub record Returns (ws ms : List ℕ) (n r : ℕ) : Type 0 where
@@ -99,12 +74,6 @@ pub record Cleared (n : ℕ) (ms ns : List ℕ) : Type 0 where
   pub tail : (a : ℕ) → n ≤ a → getD ns a 0 ≡ getD ms a 0
 
 -- ---- what the functions ask and promise
-
--- marks for every word, room for hints, and depths that have their bits
-pub record Fits (ws ms : List ℕ) (len lim : ℕ) : Type 0 where
-  pub marks : length ws ≤ length ms
-  pub room : len ≤ wordLimit
-  pub limit : lim ≤ deepest
 
 -- no more hints and CALLs than there is room for
 pub record Room (s : Trail) : Type 0 where
@@ -171,20 +140,6 @@ pub record FollowDone (lim : ℕ) (ws ms : List ℕ) (s : Trail) (ns : List ℕ)
 pub data Since (lim : ℕ) (ws ms : List ℕ) (s : Trail) : List ℕ → Trail → Type 0 where
   fresh : Since lim ws ms s ms s
   since : {ns : List ℕ} {t : Trail} → FollowDone lim ws ms s ns t → Since lim ws ms s ns t
-
--- 31 or 32 where the mark of a word has the depth at which it faults, else 0
-abbrev pub faultIn : ℕ → Move → ℕ → ℕ
-faultIn lim Other m = 0
-faultIn lim Compare m = 0
-faultIn lim (Jump t) m = 0
-faultIn lim (Enter t) m = not (eqb (m / 2 ^ (2 * lim) % 4) 0) gives 31 else 0
-faultIn lim Leave m = not (eqb (m % 4) 0) gives 32 else 0
-faultIn lim (Loop t) m = 0
-
--- address a is closed, and its mark has no fault
-pub record CleanAt (lim : ℕ) (ws : List ℕ) (r : ℕ) (ms : List ℕ) (a : ℕ) : Type 0 where
-  pub closed : ClosedAt lim ws r ms a
-  pub good : faultIn lim (moveAt ws a) (getD ms a 0) ≡ 0
 
 -- the first address that is not clean, or the words' end
 pub record UncleanIs (lim : ℕ) (ws : List ℕ) (r : ℕ) (ms : List ℕ) (f : ℕ) : Type 0 where

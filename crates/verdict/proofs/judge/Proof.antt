@@ -6,7 +6,7 @@ use lib.ListN.{length, getD}
 use Rattle.flow.specs.declared.Move.{Move}
 use Rattle.flow.specs.Masks.{nextOf}
 use Rattle.flow.specs.Walk.{Fault}
-use Rattle.walk.specs.Marks.{faultIn}
+use Rattle.look.specs.Closed.{faultIn}
 use Rattle.verdict.specs.Flow.{sound, faulty}
 use Rattle.verdict.proofs.Laws.{is-fault, before-first, lowest, on-past, all-sound}
 use borrow.Author.Needs.{needs}

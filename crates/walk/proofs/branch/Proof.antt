@@ -6,7 +6,8 @@ use lib.ListN.{length}
 use lib.Bits.{bitOr}
 use Rattle.flow.specs.declared.Move.{Move}
 use Rattle.flow.specs.Masks.{nextOf, jumpOf, toOf}
-use Rattle.walk.specs.Marks.{backIn, left}
+use Rattle.look.specs.Closed.{backIn}
+use Rattle.walk.specs.Marks.{left}
 use Rattle.walk.proofs.Laws.{visit-law, put-less}
 use borrow.Author.Needs.{needs}
 use Rattle.walk.proofs.branch.Statement.{statement}

@@ -5,8 +5,9 @@ use mathlib.Core.Bool.{Bool}
 use native.Mathlib.Omega.{arith}
 use borrow.Author.Tests.{not-true, not-false}
 use lib.ListN.{length}
-use Rattle.walk.specs.Marks.{Tells, CleanAt}
-use Rattle.walk.proofs.Laws.{tells-yes, tells-no, below-more}
+use Rattle.look.specs.Closed.{Tells, CleanAt}
+use Rattle.look.proofs.Laws.{tells-yes, tells-no}
+use Rattle.walk.proofs.Laws.{below-more}
 use Rattle.walk.proofs.first_unclean.Statement.{statement}
 use Rattle.walk.proofs.first_unclean.Tie as tie
 

@@ -6,8 +6,10 @@ use native.Mathlib.Nat.{le-antisymm}
 use native.Mathlib.Omega.{arith}
 use borrow.Author.Tests.{not-true, not-false}
 use lib.ListN.{length}
-use Rattle.walk.specs.Marks.{Tells, ClosedAt, OpenIs, closed, first}
-use Rattle.walk.proofs.Laws.{tells-yes, tells-no, below-more, unclean-fault}
+use Rattle.look.specs.Closed.{Tells, ClosedAt}
+use Rattle.look.proofs.Laws.{tells-yes, tells-no}
+use Rattle.walk.specs.Marks.{OpenIs, closed, first}
+use Rattle.walk.proofs.Laws.{below-more, unclean-fault}
 use Rattle.walk.proofs.look_over.Statement.{statement}
 use Rattle.walk.proofs.look_over.Tie as tie
 

@@ -4,8 +4,8 @@ use mathlib.Core.Path.{sym, subst}
 use lib.Pow.{pow-pos}
 use borrow.Author.Tests.{eq-eqb, ne-eqb}
 use borrow.Author.Needs.{needs}
-use Rattle.walk.proofs.fault_of.Statement.{statement}
-use Rattle.walk.proofs.fault_of.Tie as tie
+use Rattle.look.proofs.fault_of.Statement.{statement}
+use Rattle.look.proofs.fault_of.Tie as tie
 
 at-requires : tie.Need-at-requires
 at-requires c κs = search needs

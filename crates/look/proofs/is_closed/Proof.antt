@@ -1,8 +1,8 @@
 -- The three parts, one by one.
-use Rattle.walk.proofs.Laws.{tells-all}
+use Rattle.look.proofs.Laws.{tells-all}
 use borrow.Author.Needs.{needs}
-use Rattle.walk.proofs.is_closed.Statement.{statement}
-use Rattle.walk.proofs.is_closed.Tie as tie
+use Rattle.look.proofs.is_closed.Statement.{statement}
+use Rattle.look.proofs.is_closed.Tie as tie
 
 mul-word : tie.Need-mul-word
 mul-word c = search needs

@@ -2,11 +2,11 @@
 use native.Mathlib.Omega.{arith}
 use lib.ListN.{getD}
 use lib.Bits.{bitOr}
-use Rattle.walk.specs.Marks.{holds}
-use Rattle.walk.proofs.Laws.{tells-as, tells-eq}
+use Rattle.look.specs.Closed.{holds}
+use Rattle.look.proofs.Laws.{tells-as, tells-eq}
 use borrow.Author.Needs.{needs}
-use Rattle.walk.proofs.holds.Statement.{statement}
-use Rattle.walk.proofs.holds.Tie as tie
+use Rattle.look.proofs.holds.Statement.{statement}
+use Rattle.look.proofs.holds.Tie as tie
 
 returns : tie.Need-returns
 returns c = holds (λ l. absurd (omega arith))

@@ -9,11 +9,11 @@ use Rattle.flow.specs.declared.Move.{Move}
 use Rattle.flow.specs.declared.Move.the-variants.{Enter}
 use Rattle.flow.specs.Masks.{jumpOf}
 use Rattle.flow.proofs.Codes.{goes-on}
-use Rattle.walk.specs.Marks.{Tells, backIn, faultIn}
-use Rattle.walk.proofs.Laws.{tells-plain, tells-next, tells-both, tells-return, tells-good, tells-clean, spared}
+use Rattle.look.specs.Closed.{Tells, backIn, faultIn}
+use Rattle.look.proofs.Laws.{tells-plain, tells-next, tells-both, tells-return, tells-good, tells-clean, spared}
 use borrow.Author.Needs.{needs}
-use Rattle.walk.proofs.is_clean.Statement.{statement}
-use Rattle.walk.proofs.is_clean.Tie as tie
+use Rattle.look.proofs.is_clean.Statement.{statement}
+use Rattle.look.proofs.is_clean.Tie as tie
 
 mul-word : tie.Need-mul-word
 mul-word c = search needs

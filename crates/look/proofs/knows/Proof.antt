@@ -4,11 +4,11 @@ use mathlib.Core.Path.{_≡_, sym, ap, subst, _∙_}
 use lib.Bits.{bitOr}
 use lib.Dec.{eqb}
 use Rattle.flow.specs.declared.Move.{Move}
-use Rattle.walk.specs.Marks.{Tells, backIn, holds}
-use Rattle.walk.proofs.Laws.{or-zero, tells-eq}
+use Rattle.look.specs.Closed.{Tells, backIn, holds}
+use Rattle.look.proofs.Laws.{or-zero, tells-eq}
 use borrow.Author.Needs.{needs}
-use Rattle.walk.proofs.knows.Statement.{statement}
-use Rattle.walk.proofs.knows.Tie as tie
+use Rattle.look.proofs.knows.Statement.{statement}
+use Rattle.look.proofs.knows.Tie as tie
 
 enum-told : tie.Need-enum-told
 enum-told c = search needs

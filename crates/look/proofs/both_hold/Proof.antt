@@ -4,10 +4,10 @@ use mathlib.Core.Path.{subst}
 use mathlib.Core.Bool.{Bool}
 use borrow.Author.Needs.{needs}
 use borrow.Author.Tests.{not-true, not-false}
-use Rattle.walk.specs.Marks.{Tells, HoldsAt, fails}
-use Rattle.walk.proofs.Laws.{tells-yes, tells-no, tells-as}
-use Rattle.walk.proofs.both_hold.Statement.{statement}
-use Rattle.walk.proofs.both_hold.Tie as tie
+use Rattle.look.specs.Closed.{Tells, HoldsAt, fails}
+use Rattle.look.proofs.Laws.{tells-yes, tells-no, tells-as}
+use Rattle.look.proofs.both_hold.Statement.{statement}
+use Rattle.look.proofs.both_hold.Tie as tie
 
 add-holds : tie.Need-add-holds
 add-holds c = search needs
