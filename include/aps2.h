@@ -1,5 +1,7 @@
 /* The C interface of Oatneedle: what the archive libaps2_c.a holds.
-   No function keeps anything, allocates, or reads past what it is lent; every input gets an answer. */
+   No function keeps anything, allocates, or reads past what it is lent; every input gets an answer.
+   The buffers of one call must not overlap, and no pointer may be null, also where its length is 0 (any other will do then). A call needs
+   room on the stack: aps2_check 321 KiB, aps2_listing 169 KiB, the others 1 KiB. */
 #ifndef APS2_H
 #define APS2_H
 

@@ -22,10 +22,12 @@ static inline uint64_t below(uint64_t n) { return random64() % n; }
 static uint64_t compared;
 static int failed;
 
-/* Ends a family: one line. */
+/* Ends a family: one line. One that compared nothing has not agreed. */
 static inline void family(const char *name)
 {
-    if (!failed)
+    if (compared == 0)
+        printf("FAIL %s: nothing was compared\n", name);
+    else if (!failed)
         printf("ok %s %llu\n", name, (unsigned long long)compared);
     else
         printf("FAIL %s\n", name);

@@ -1,11 +1,11 @@
 // The three answers: the listing; the verdict with the word that it is about; how a run ended, and all that it left.
+// Each comes as text for a person or as an object for a script, and its exit status last.
 use crate::space;
 use instruction::QuadSamples;
+use json::file;
+use json::state as by_name;
 use rehearsal::Answer;
 use report::state::say_state;
-use report::told;
-use report::told::say;
-use report::told::say_number;
 use report::words::say_listing;
 use report::words::say_place;
 use report::words::say_trace;
@@ -13,10 +13,19 @@ use request::asked::Asked;
 use request::messages::messages_of;
 use request::trace::save;
 use sequence::Sequence;
+use told::say;
+use told::say_number;
 
-pub fn list(words: &[u64]) {
+pub fn list(words: &[u64], asked: Asked) {
+    if asked.json {
+        file::begin(asked.file, told::ACCEPTED);
+        file::say_key(b"listing");
+        json::words::say_words(words);
+        file::end();
+    } else {
+        say_listing(words);
+    }
     told::ends(told::ACCEPTED, 0);
-    say_listing(words);
 }
 
 fn say_accepted(n: usize, wave: u64) {
@@ -38,12 +47,12 @@ pub fn check(words: &[u64], wave: u64) {
     let verdict = verdict::check(words, wave, &mut marks);
     let number = verdict.refusal.number;
     if number == 0 {
-        told::ends(told::ACCEPTED, 0);
         say_accepted(words.len(), wave);
+        told::ends(told::ACCEPTED, 0);
         return;
     }
-    told::ends(told::REFUSED, number);
     say_refused(words, number, verdict.place);
+    told::ends(told::REFUSED, number);
 }
 
 // Refused, a fault, or an end that is none.
@@ -66,19 +75,41 @@ fn status_of(number: u64) -> u64 {
     }
 }
 
-// What a run is told that has come to its end.
+fn say_run(words: &[u64], trace: &[u64], answer: Answer) {
+    say_end(answer.end.number);
+    say_place(words, answer.state.core.address.0 as usize);
+    let state = answer.state;
+    say_state(state);
+    say_trace(trace);
+}
+
+fn say_run_by_name(words: &[u64], trace: &[u64], answer: Answer, asked: Asked) {
+    let end = answer.end.number;
+    file::begin(asked.file, status_of(end));
+    file::say_member(b"end", end);
+    file::say_member(b"words", words.len() as u64);
+    file::say_member(b"wave", asked.wave);
+    let state = answer.state;
+    by_name::say_state(state);
+    file::say_key(b"trace");
+    json::words::say_trace(trace);
+    file::end();
+}
+
+// What a run is told that has come to its end. The trace goes to its file first, so that there is no answer without it.
 fn tell(words: &[u64], trace: &[u64], answer: Answer, asked: Asked) {
     let end = answer.end.number;
     if asked.trace != 0 && !save(asked.trace, trace) {
         told::ends(told::NO_ANSWER, 0);
         return;
     }
+    if asked.json {
+        say_run_by_name(words, trace, answer, asked);
+        told::ends(status_of(end), 0);
+        return;
+    }
+    say_run(words, trace, answer);
     told::ends(status_of(end), end);
-    say_end(end);
-    say_place(words, answer.state.core.address.0 as usize);
-    let state = answer.state;
-    say_state(state);
-    say_trace(trace);
 }
 
 fn rehearse(words: &[u64], messages: &[u8], trace: &mut [u64], asked: Asked) {

@@ -1,9 +1,9 @@
 // aps2: lists, checks and rehearses the words of a file, for the script of the same name.
 // What is worth a proof stands in the libraries; here what is asked for is answered.
 mod answer;
+mod several;
 mod space;
 
-use report::told;
 use request::asked;
 use request::asked::Asked;
 use request::input::words_of;
@@ -11,7 +11,7 @@ use sequence::Sequence;
 
 fn give(words: &[u64], asked: Asked) {
     if asked.command == asked::LIST {
-        answer::list(words);
+        answer::list(words, asked);
         return;
     }
     if asked.command == asked::CHECK {
@@ -21,12 +21,20 @@ fn give(words: &[u64], asked: Asked) {
     answer::run(words, asked);
 }
 
+fn without_words(asked: Asked) {
+    if asked.json {
+        json::file::begin(asked.file, told::NO_ANSWER);
+        json::file::end();
+    }
+    told::ends(told::NO_ANSWER, 0);
+}
+
 fn serve(asked: Asked) {
     let mut words = space::for_words();
     let found = words_of(asked.file, asked.hex, &mut words);
     let n = found.count;
     if !found.good {
-        told::ends(told::NO_ANSWER, 0);
+        without_words(asked);
         return;
     }
     if n <= Sequence::WORDS as usize {
@@ -38,6 +46,10 @@ fn main() {
     let asked = asked::read();
     if !asked.good {
         told::ends(told::NO_ANSWER, 0);
+        return;
+    }
+    if (asked.command == asked::CHECK) & (asked.several | asked.json) {
+        several::check(asked);
         return;
     }
     serve(asked);

@@ -22,6 +22,7 @@ use instruction::Repeats;
 use instruction::WaveformFields;
 use instruction::WordAddress;
 use jumps::Condition;
+use laid::widths::header_fits;
 use listing::list;
 use reader::Reading;
 use reader::read;
@@ -30,7 +31,6 @@ use rehearsal::run;
 use verdict::Verdict;
 use verdict::check;
 use writer::Written;
-use writer::widths::header_fits;
 use writer::write;
 
 // How many numbers C lends for the fields of an instruction, and for the answer of a run.

@@ -1,5 +1,4 @@
 // What a person is told: words as lines of the listing, and all that a run left, by name.
-// The answer goes to standard output; how it ended goes to the script, too.
+// The answer goes to standard output.
 pub mod state;
-pub mod told;
 pub mod words;

@@ -1,9 +1,9 @@
 // Words as lines of the listing.
 // A place is told with the word that stands there, and a long trace is cut.
-use crate::told::say;
-use crate::told::say_number;
-use crate::told::say_pair;
 use listing::Listing;
+use told::say;
+use told::say_number;
+use told::say_pair;
 
 // The words of a trace that are shown.
 const SHOWN: usize = 40;

@@ -1,4 +1,5 @@
 // What is asked: the command, its file and its options. What cannot be understood is said at once, in a sentence.
+ghost use Prim.Native.Nat.{_<_};
 use crate::complaint::complain;
 use crate::complaint::complain_number;
 use sequence::Sequence;
@@ -26,14 +27,19 @@ const ROOM: u64 = 6;
 
 const TRACE: u64 = 7;
 
-// An option that waits for its value is `pending`. A file is told by its place among the arguments; 0 is none.
+const JSON: u64 = 8;
+
+// An option that waits for its value is `pending`. A file is told by its place among the arguments; 0 is none. Of several, `file`
+// is the first.
 pub struct Asked {
     pub command: u64,
     pub pending: u64,
     pub file: usize,
+    pub several: bool,
     pub messages: usize,
     pub trace: usize,
     pub hex: bool,
+    pub json: bool,
     pub has_wave: bool,
     pub wave: u64,
     pub triggers: u64,
@@ -76,6 +82,9 @@ fn option_named(text: &[u8]) -> u64 {
     if same(text, b"--hex") {
         return HEX;
     }
+    if same(text, b"--json") {
+        return JSON;
+    }
     if same(text, b"--messages") {
         return MESSAGES;
     }
@@ -96,12 +105,18 @@ fn complain_of_option(option: u64) {
     }
 }
 
-// Whether a command has an option: every one reads words, all but the listing need a waveform memory, and the others are of a run.
+// The options that have no value after them.
+fn is_alone(option: u64) -> bool {
+    (option == HEX) | (option == JSON)
+}
+
+// Whether a command has an option: every one reads words and has two ways to tell its answer, all but the listing need a waveform
+// memory, and the others are of a run.
 fn has_option(command: u64, option: u64) -> bool {
     if option == 0 {
         return false;
     }
-    (option == HEX) | (option == WAVE) & (command != LIST) | (command == RUN)
+    is_alone(option) | (option == WAVE) & (command != LIST) | (command == RUN)
 }
 
 fn is_option(text: &[u8]) -> bool {
@@ -130,9 +145,11 @@ impl Asked {
             command,
             pending: 0,
             file: 0,
+            several: false,
             messages: 0,
             trace: 0,
             hex: false,
+            json: false,
             has_wave: false,
             wave: 0,
             triggers: 0,
@@ -147,15 +164,23 @@ impl Asked {
         self
     }
 
-    // A word that is no option and no value: the file, of which there is one.
+    fn with_one_more(self, text: &[u8]) -> Asked {
+        complain(b"aps2: one file at a time, and ");
+        complain(text);
+        complain(b" is one more; check takes several\n");
+        self.bad()
+    }
+
+    // A word that is no option and no value: a file. The check takes several.
     fn with_file(mut self, text: &[u8], i: usize) -> Asked {
-        if self.file != 0 {
-            complain(b"aps2: one file at a time, and ");
-            complain(text);
-            complain(b" is one more\n");
-            return self.bad();
+        if self.file == 0 {
+            self.file = i;
+            return self;
         }
-        self.file = i;
+        if self.command != CHECK {
+            return self.with_one_more(text);
+        }
+        self.several = true;
         self
     }
 
@@ -173,8 +198,9 @@ impl Asked {
         if !has_option(self.command, option) {
             return self.without_option(text);
         }
-        if option == HEX {
-            self.hex = true;
+        if is_alone(option) {
+            self.hex = self.hex | (option == HEX);
+            self.json = self.json | (option == JSON);
             return self;
         }
         self.pending = option;
@@ -294,6 +320,18 @@ fn take_argument(asked: Asked, i: usize) -> Asked {
         return asked.bad();
     }
     asked.with_argument(&text[..n], i)
+}
+
+// Whether the argument at i is a file, where all were understood: no option, and not the value of the one before it.
+pub fn is_file(i: usize) -> bool
+    requires { ⌜ 0 < i ⌝ }
+{
+    let mut before = io::large_buffer();
+    let k = os::arg(i - 1, &mut before);
+    let option = option_named(&before[..k]);
+    let mut text = io::large_buffer();
+    let n = os::arg(i, &mut text);
+    !is_option(&text[..n]) & ((option == 0) | is_alone(option))
 }
 
 // All arguments after the command.

@@ -1,4 +1,5 @@
 // The trace as a file of raw words.
+// It is written beside its place, under its name and `.part`, and takes its place when it is whole.
 use crate::complaint::complain_of_file;
 use typed::raw;
 
@@ -14,24 +15,72 @@ fn write_words(fd: i32, words: &[u64]) -> bool {
     true
 }
 
-fn write_to(path: &[u8], words: &[u64]) -> bool {
-    let fd = os::open_overwrite(path);
-    if fd < 0 {
+// Fills the new file, and tells whether all is in it.
+fn fill(fd: i32, part: &[u8], words: &[u64]) -> bool {
+    let is_written = write_words(fd, words);
+    if !is_written {
+        complain_of_file(part);
+        libc::close(fd);
         return false;
     }
-    let is_written = write_words(fd, words);
     let closed = libc::close(fd);
-    is_written & (closed == 0)
+    if closed != 0 {
+        complain_of_file(part);
+        return false;
+    }
+    true
+}
+
+fn take_place(part: &[u8], path: &[u8]) -> bool {
+    let renamed = os::rename(part, path);
+    if renamed != 0 {
+        complain_of_file(path);
+        return false;
+    }
+    true
+}
+
+// A file that is not whole, or cannot take its place, goes away again.
+fn write_to(path: &[u8], part: &[u8], words: &[u64]) -> bool {
+    let fd = os::create(part);
+    if fd < 0 {
+        complain_of_file(part);
+        return false;
+    }
+    if fill(fd, part, words) {
+        if take_place(part, path) {
+            return true;
+        }
+    }
+    os::unlink(part);
+    false
+}
+
+// Puts `.part` behind the first bytes of a name; the system takes no name so long that it does not fit.
+fn named_part(name: &mut [u8], n: usize) -> usize {
+    let suffix = b".part";
+    let mut at = n;
+    let mut i: usize = 0;
+    while i < suffix.len() {
+        if name.len() <= at {
+            return n;
+        }
+        name[at] = suffix[i];
+        at += 1;
+        i += 1;
+    }
+    at
 }
 
 // Writes the words to the file that an argument names, and tells whether they are all there.
 pub fn save(argument: usize, words: &[u64]) -> bool {
     let mut name = io::large_buffer();
     let n = os::arg(argument, &mut name);
-    let path = &name[..n];
-    let is_written = write_to(path, words);
-    if !is_written {
-        complain_of_file(path);
+    let mut part = io::large_buffer();
+    os::arg(argument, &mut part);
+    let k = named_part(&mut part, n);
+    if part.len() < k {
+        return false;
     }
-    is_written
+    write_to(&name[..n], &part[..k], words)
 }

@@ -4,11 +4,8 @@ ghost use mathlib.Core.Path.{_≡_};
 ghost use Rattle.writer.specs.Writing.{askedOf, writtenOf};
 use instruction::Instruction;
 use instruction::Refusal;
-use widths::fits;
-use word::word_of;
-
-pub mod widths;
-mod word;
+use laid::widths::fits;
+use laid::word::word_of;
 
 pub struct Written {
     pub number: u64,

@@ -15,8 +15,8 @@ slice-aggregate-words-of c = search needs
 words-of-requires : tie.Need-words-of-requires
 words-of-requires c κs = search needs
 
-ends-requires : tie.Need-ends-requires
-ends-requires c κs = search needs
+without-words-requires : tie.Need-without-words-requires
+without-words-requires c κs = search needs
 
 returns : tie.Need-returns
 returns c = search needs
@@ -43,7 +43,7 @@ serve-spec =
     for-words-requires
     slice-aggregate-words-of
     words-of-requires
-    ends-requires
+    without-words-requires
     returns
     array-share-prefix-words
     slice-aggregate-give

@@ -1,58 +1,67 @@
--- The parts of the buffers are within them.
+-- The input is a part of its buffer.
 use mathlib.Core.Path.{sym}
 use native.Mathlib.Omega.{arith}
-use lib.ListN.{take}
 use lib.Seq.{length-take-le}
-use Rattle.listing.proofs.Room.{listing-short}
 use borrow.Author.Needs.{needs}
 use Rattle.aps2_listing.proofs.main.Statement.{statement}
 use Rattle.aps2_listing.proofs.main.Tie as tie
 
-slice-aggregate-read-full : tie.Need-slice-aggregate-read-full
-slice-aggregate-read-full c = search needs
+-- src/main.rt:115:22
+slice-aggregate-fill : tie.Need-slice-aggregate-fill
+slice-aggregate-fill c = search needs
 
-read-full-requires : tie.Need-read-full-requires
-read-full-requires c κs = search needs
+-- src/main.rt:115:9
+fill-requires : tie.Need-fill-requires
+fill-requires c κs = search needs
 
+-- src/main.rt:116:9
 kept-requires : tie.Need-kept-requires
 kept-requires c κs = search needs
 
+-- src/main.rt:118:18
+slice-aggregate-fail : tie.Need-slice-aggregate-fail
+slice-aggregate-fail c = search needs
+
+-- src/main.rt:118:9
+fail-requires : tie.Need-fail-requires
+fail-requires c κs = search needs
+
+-- src/main.rt:119:9
+ends-requires : tie.Need-ends-requires
+ends-requires c κs = search needs
+
+-- src/main.rt:120:9
+returns : tie.Need-returns
+returns c = search needs
+
+-- src/main.rt:123:10
 array-share-prefix-bytes : tie.Need-array-share-prefix-bytes
 array-share-prefix-bytes c = search needs
 
-slice-aggregate-list : tie.Need-slice-aggregate-list
-slice-aggregate-list c = sym (length-take-le (c .before .kept .result) (c .before .before .before .read-full .last .1 .0) (omega (arith, c .before .kept .ensures, c .before .before .before .read-full .kept .1 .0)))
+-- src/main.rt:123:10
+slice-aggregate-show : tie.Need-slice-aggregate-show
+slice-aggregate-show c = sym (length-take-le (c .before .before .kept .result .count) (c .before .before .before .before .fill .last .0) (omega (arith, c .before .before .kept .ensures, c .before .before .before .before .fill .kept .0)))
 
-slice-aggregate-list-2 : tie.Need-slice-aggregate-list-2
-slice-aggregate-list-2 c = search needs
+-- src/main.rt:123:5
+show-requires : tie.Need-show-requires
+show-requires c κs = search needs
 
-list-requires : tie.Need-list-requires
-list-requires c κs = search needs
-
-array-share-prefix-out : tie.Need-array-share-prefix-out
-array-share-prefix-out c = omega (arith, c .before .list .ensures .size, listing-short (take (c .before .before .before .before .kept .result) (c .before .before .before .before .before .before .read-full .last .1 .0)), c .before .list .kept .1 .0)
-
-slice-aggregate-write-all : tie.Need-slice-aggregate-write-all
-slice-aggregate-write-all c = sym (length-take-le (c .before .before .list .result) (c .before .before .list .last .1 .0) (omega (arith, c .before .before .list .ensures .size, listing-short (take (c .before .before .before .before .before .kept .result) (c .before .before .before .before .before .before .before .read-full .last .1 .0)), c .before .before .list .kept .1 .0)))
-
-write-all-requires : tie.Need-write-all-requires
-write-all-requires c κs = search needs
-
-returns : tie.Need-returns
-returns c = search needs
+-- src/main.rt:113:1
+returns-2 : tie.Need-returns-2
+returns-2 c = search needs
 
 pub main-spec : {M : Type 1} → statement M
 main-spec =
     tie.close
     (tie.spec
-    slice-aggregate-read-full
-    read-full-requires
+    slice-aggregate-fill
+    fill-requires
     kept-requires
+    slice-aggregate-fail
+    fail-requires
+    ends-requires
+    returns
     array-share-prefix-bytes
-    slice-aggregate-list
-    slice-aggregate-list-2
-    list-requires
-    array-share-prefix-out
-    slice-aggregate-write-all
-    write-all-requires
-    returns)
+    slice-aggregate-show
+    show-requires
+    returns-2)

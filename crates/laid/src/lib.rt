@@ -1,0 +1,4 @@
+// An instruction laid into a word: each field in its place, and whether it fits there.
+// Reader, check and run need none of it; the writer judges by it, and so does who takes fields from C.
+pub mod widths;
+pub mod word;

@@ -1,0 +1,55 @@
+# Reads what `aps2 list|check|run --json` prints, with Python's own parser, and prints the answer as the command says it without.
+# Usage: read_json.py list|check|run < OBJECTS. A name that is missing or one too many is an error.
+import json
+import sys
+
+HEADS = {'WAVEFORM': ['op', 'ta', 'count', 'address'], 'MARKER': ['op', 'transition', 'state', 'count'], 'LOAD_REPEAT': ['count'],
+         'REPEAT': ['address'], 'GOTO': ['address'], 'CALL': ['address'], 'PREFETCH': ['address'], 'CMP': ['code', 'mask'],
+         'MODULATOR': ['op', 'nco', 'payload']}
+ENGINES = ['waveform', 'marker_0', 'marker_1', 'marker_2', 'marker_3', 'modulator']
+
+
+def only(thing, names):
+    assert list(thing) == names, (list(thing), names)
+    return [thing[name] for name in names]
+
+
+def line(word):
+    name = word['name']
+    names = ['place', 'name'] + (['number'] if name == 'BAD' else [] if name == 'NOOP' else ['engine', 'write'] + HEADS.get(name, []))
+    return '\t'.join(str(value) for value in only(word, names))
+
+
+def listed(a):
+    file, status, words = only(a, ['file', 'status', 'listing'])
+    return ['aps2-listing\t1'] + [line(word) for word in words]
+
+
+def checked(a):
+    if a['status'] == 2:
+        return [only(a, ['file', 'status'])[0] + ': no answer']
+    file, status, number, place, words, wave = only(a, ['file', 'status', 'number', 'place', 'words', 'wave'])
+    assert status == (number != 0)
+    said = 'accepted: %d words' % words if number == 0 else 'refused: %d' % number + (' at word %d' % place if words else '')
+    return [file + ': ' + said]
+
+
+def engines(counts):
+    return ['\t%s\t%d' % (name.replace('_', ' '), n) for name, n in zip(ENGINES, only(counts, ENGINES))]
+
+
+def ran(a):
+    core = ['address', 'steps', 'messages_used', 'trace_length', 'repeat_counter', 'register', 'condition', 'held', 'stack_depth']
+    values = only(a, ['file', 'status', 'end', 'words', 'wave'] + core + ['stack', 'trigger_waits', 'quad_samples', 'trace'])
+    said = [name.replace('_', ' ') + '\t' + str(value) for name, value in zip(core, values[5:14])]
+    for depth, entry in enumerate(a['stack']):
+        said.append('\tentry %d\treturns to %d\tcounter\t%d' % tuple([depth] + only(entry, ['returns_to', 'counter'])))
+    assert len(a['stack']) == a['stack_depth'] and len(a['trace']) == a['trace_length']
+    said += ['trigger waits'] + engines(a['trigger_waits']) + ['quad-samples'] + engines(a['quad_samples'])
+    return ['end %d' % a['end']] + said + ['trace %d' % len(a['trace'])] + a['trace']
+
+
+says = {'list': listed, 'check': checked, 'run': ran}[sys.argv[1]]
+for text in sys.stdin:
+    for said in says(json.loads(text)):
+        print(said)
