@@ -2,6 +2,7 @@ pub mod Fields
 pub mod Word
 pub mod Steps
 pub mod Runs
+pub mod Along
 pub mod Prefix
 pub mod Exact
 pub mod Faults

@@ -4,7 +4,7 @@ use mathlib.Core.Path.{_≡_}
 use mathlib.Core.List.{List, [], _∷_, _++_}
 use Prim.Native.Nat.{ℕ, zero, suc, _+_, _≤_, _<_}
 use lib.Dec.{eqb}
-use lib.ListN.{getD}
+use lib.ListN.{length, getD}
 use Rattle.instruction.specs.Bits.{pick}
 use Rattle.instruction.specs.Table.{codeOf}
 use Rattle.instruction.specs.Word.{spelledBy}
@@ -33,6 +33,12 @@ abbrev pub Prefix : Type 0
 Prefix =
     (e e′ : Fixed) (budget budget′ : ℕ) → Extends e e′ → budget ≤ budget′ → budget′ ≤ budgetLimit
     → (more : List ℕ) × (rehearse budget′ e′ .out ≡ rehearse budget e .out ++ more)
+
+-- ---- the trace
+
+-- "trace length": as many words as were dispatched
+abbrev pub SentIsLength : Type 0
+SentIsLength = (e : Fixed) (budget : ℕ) → rehearse budget e .state .core .sent ≡ length (rehearse budget e .out)
 
 -- ---- totals and waits
 
