@@ -2,11 +2,15 @@
 -- Assumes nothing.
 use mathlib.Core.Path.{_≡_, refl, sym, ap, _∙_, subst}
 use mathlib.Core.Bool.{Bool, true, false}
-use mathlib.Core.List.{List, [], _++_, append-nil, append-assoc}
-use Prim.Native.Nat.{ℕ, zero, suc, _+_}
+use mathlib.Core.List.{List, [], _∷_, _++_, append-nil, append-assoc}
+use Prim.Native.Nat.{ℕ, zero, suc, _+_, _-_, _≤_}
+use native.Mathlib.Decide.{ℕ-discrete}
+use native.Mathlib.Omega.{arith}
 use lib.Dec.{eqb}
-use lib.ListN.{length, length-append}
+use lib.ListN.{length, getD, set, replicate, length-append, length-set}
+use lib.Seq.{getD-set-other}
 use Rattle.instruction.specs.Bits.{pick}
+use Rattle.sequence.specs.Bounds.{stackDepth}
 use Rattle.dispatch.proofs.Counts.{picks}
 use Rattle.jumps.specs.State.{Fixed, Did, fresh, stop}
 use Rattle.jumps.specs.declared.State.{State}
@@ -14,7 +18,9 @@ use Rattle.machine.specs.Step.{stepOf}
 use Rattle.machine.specs.Kept.{Good}
 use Rattle.machine.proofs.Kept.{kept, fresh-good}
 use Rattle.rehearsal.specs.Run.{onto, runOf, inputRefused, rehearse}
-use Rattle.demands.specs.Run.{SentIsLength}
+use Rattle.demands.specs.Run.{SentIsLength, Stack, UnusedAreZero}
+use Rattle.demands.proofs.Steps.{Stacked, stays, pushes, pops, Outcome, stops, flows, sends, outcome}
+use Rattle.demands.proofs.Runs.{zero-at}
 
 -- P speaks of what was dispatched so far and of the state then
 module _ (e : Fixed) (P : List ℕ → State → Type 0)
@@ -48,3 +54,42 @@ sent-is-length e =
     all-along e (λ out s. s .core .sent ≡ length out)
     (λ out s g p. kept e s g .sent ∙ ap (λ (k : ℕ). k + length (stepOf e s .out)) p ∙ sym (length-append out (stepOf e s .out)))
     refl
+
+-- ---- the stack
+
+zero-set : (l : List ℕ) (k : ℕ) → getD (set l k 0) k 0 ≡ 0
+zero-set [] k = refl
+zero-set (x ∷ l) zero = refl
+zero-set (x ∷ l) (suc k) = zero-set l k
+
+pushed : (d : ℕ) (l : List ℕ) (v : ℕ) → Stack d l → Stack (d + 1) (set l d v)
+pushed d l v s = record {
+  size = length-set l d v ∙ s .size;
+  unused = λ i h. getD-set-other l d i v 0 (λ e. omega arith) ∙ s .unused i (omega arith);
+}
+
+popped : (d : ℕ) (l : List ℕ) → Stack d l → Stack (d - 1) (set l (d - 1) 0)
+popped d l s = record { size = length-set l (d - 1) 0 ∙ s .size; unused = λ i h. by i h (ℕ-discrete i (d - 1)) }
+  where
+    by : (i : ℕ) → d - 1 ≤ i → Dec (i ≡ d - 1) → getD (set l (d - 1) 0) i 0 ≡ 0
+    by i h (yes e) = ap (λ (j : ℕ). getD (set l (d - 1) 0) j 0) e ∙ zero-set l (d - 1)
+    by i h (no n) = getD-set-other l (d - 1) i 0 0 n ∙ s .unused i (omega arith)
+
+abbrev StacksIn : State → Type 0
+StacksIn s = Stack (s .core .depth) (s .returns) × Stack (s .core .depth) (s .counters)
+
+stacks-flow : (s : State) {d : ℕ} {rs cs : List ℕ} → Stacked s d rs cs → StacksIn s → Stack d rs × Stack d cs
+stacks-flow s stays p = p
+stacks-flow s (pushes a k) p = (pushed (s .core .depth) (s .returns) a (p .0), pushed (s .core .depth) (s .counters) k (p .1))
+stacks-flow s pops p = (popped (s .core .depth) (s .returns) (p .0), popped (s .core .depth) (s .counters) (p .1))
+
+stacks-step : (e : Fixed) (s : State) (d : Did) → Outcome e s d → StacksIn s → StacksIn (d .state)
+stacks-step e s d (stops r h) p = p
+stacks-step e s d (flows c rs cs h k) p = stacks-flow s k p
+stacks-step e s d sends p = p
+
+fresh-stack : Stack 0 (replicate stackDepth 0)
+fresh-stack = record { size = refl; unused = λ i h. zero-at stackDepth i }
+
+pub unused-are-zero : UnusedAreZero
+unused-are-zero e = all-along e (λ out s. StacksIn s) (λ out s g p. stacks-step e s (stepOf e s) (outcome e s) p) (fresh-stack, fresh-stack)

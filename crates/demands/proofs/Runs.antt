@@ -30,7 +30,7 @@ use Rattle.demands.proofs.Steps.{Outcome, stops, flows, sends, outcome,
 
 moved-steps : (e : Fixed) (s : State) (d : Did) → Outcome e s d → d .end .number ≡ 0 → d .state .core .steps ≡ s .core .steps + 1
 moved-steps e s d (stops r h) z = absurd (h z)
-moved-steps e s d (flows c rs cs h) z = h
+moved-steps e s d (flows c rs cs h k) z = h
 moved-steps e s d sends z = refl
 
 pub steps-are-taken : StepsAreTaken
@@ -66,7 +66,7 @@ record Over (s : State) (d : Did) : Type 0 where
 
 over-step : (e : Fixed) (s : State) (d : Did) → Outcome e s d → Over s d
 over-step e s d (stops r h) = record { waits = refl; totals = refl }
-over-step e s d (flows c rs cs h) = record { waits = refl; totals = refl }
+over-step e s d (flows c rs cs h k) = record { waits = refl; totals = refl }
 over-step e s d sends = record { waits = refl; totals = refl }
 
 over-then : (s : State) (d r : Did) (b : Bool) → Over s d → Over (d .state) r → Over s (pick b (onto (d .out) r) d)
@@ -134,7 +134,7 @@ totals-sum (w ∷ trace) l k h =
     ∙ ap (λ (n : ℕ). n + sumOver (playedOn k) trace) (added-at l (engineOf i) k (playsFor (i .body)) h)
     ∙ add-assoc (getD l k 0) (playedOn k i) (sumOver (playedOn k) trace)
 
-zero-at : (n k : ℕ) → getD {A = ℕ} (replicate n 0) k 0 ≡ 0
+pub zero-at : (n k : ℕ) → getD {A = ℕ} (replicate n 0) k 0 ≡ 0
 zero-at zero k = refl
 zero-at (suc n) zero = refl
 zero-at (suc n) (suc k) = zero-at n k

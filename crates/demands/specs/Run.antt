@@ -10,7 +10,7 @@ use Rattle.instruction.specs.Table.{codeOf}
 use Rattle.instruction.specs.Word.{spelledBy}
 use Rattle.instruction.specs.declared.Instruction.{Instruction}
 use Rattle.instruction.specs.declared.Body.the-variants.{Wait}
-use Rattle.sequence.specs.Bounds.{budgetLimit}
+use Rattle.sequence.specs.Bounds.{stackDepth, budgetLimit}
 use Rattle.dispatch.specs.Engines.{engineCount, engineOf, waitsFor, playsFor}
 use Rattle.jumps.specs.State.{Fixed}
 use Rattle.jumps.specs.declared.State.{State}
@@ -39,6 +39,20 @@ Prefix =
 -- "trace length": as many words as were dispatched
 abbrev pub SentIsLength : Type 0
 SentIsLength = (e : Fixed) (budget : ℕ) → rehearse budget e .state .core .sent ≡ length (rehearse budget e .out)
+
+-- ---- the stack
+
+-- "stack with unused entries zero": those of its sixteen that are past the depth
+pub record Stack (depth : ℕ) (entries : List ℕ) : Type 0 where
+  pub size : length entries ≡ stackDepth
+  pub unused : (i : ℕ) → depth ≤ i → getD entries i 0 ≡ 0
+
+-- return addresses, and the counters beside them
+abbrev pub UnusedAreZero : Type 0
+UnusedAreZero =
+    (e : Fixed) (budget : ℕ)
+    → Stack (rehearse budget e .state .core .depth) (rehearse budget e .state .returns)
+    × Stack (rehearse budget e .state .core .depth) (rehearse budget e .state .counters)
 
 -- ---- totals and waits
 
