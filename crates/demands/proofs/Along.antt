@@ -19,7 +19,7 @@ use Rattle.machine.specs.Kept.{Good}
 use Rattle.machine.proofs.Kept.{kept, fresh-good}
 use Rattle.rehearsal.specs.Run.{onto, runOf, inputRefused, rehearse}
 use Rattle.demands.specs.Run.{SentIsLength, Stack, UnusedAreZero}
-use Rattle.demands.proofs.Steps.{Stacked, stays, pushes, pops, Outcome, stops, flows, sends, outcome}
+use Rattle.demands.proofs.Steps.{Stacked, stays, pushes, pops, Outcome, stops, flows, holds, sends, outcome}
 use Rattle.demands.proofs.Runs.{zero-at}
 
 -- P speaks of what was dispatched so far and of the state then
@@ -85,8 +85,9 @@ stacks-flow s pops p = (popped (s .core .depth) (s .returns) (p .0), popped (s .
 
 stacks-step : (e : Fixed) (s : State) (d : Did) → Outcome e s d → StacksIn s → StacksIn (d .state)
 stacks-step e s d (stops r h) p = p
-stacks-step e s d (flows c rs cs h k) p = stacks-flow s k p
-stacks-step e s d sends p = p
+stacks-step e s d (flows c rs cs f) p = stacks-flow s (f .stack) p
+stacks-step e s d (holds g) p = p
+stacks-step e s d (sends g) p = p
 
 fresh-stack : Stack 0 (replicate stackDepth 0)
 fresh-stack = record { size = refl; unused = λ i h. zero-at stackDepth i }

@@ -3,6 +3,7 @@ pub mod Word
 pub mod Steps
 pub mod Runs
 pub mod Along
+pub mod Trace
 pub mod Prefix
 pub mod Exact
 pub mod Faults

@@ -24,14 +24,15 @@ use Rattle.machine.specs.Step.{stepOf}
 use Rattle.rehearsal.proofs.Runs.{onto-onto}
 use Rattle.rehearsal.specs.Run.{onto, thenDid, runOf, inputRefused, rehearse}
 use Rattle.demands.specs.Run.{playedOn, awaitedOn, sumOver, TotalsAreSums, WaitsAreCounts, taken, StepsAreTaken, StepByStep}
-use Rattle.demands.proofs.Steps.{Outcome, stops, flows, sends, outcome, stops-still}
+use Rattle.demands.proofs.Steps.{Outcome, stops, flows, holds, sends, outcome, stops-still}
 
 -- ---- the steps counted are the steps taken
 
 moved-steps : (e : Fixed) (s : State) (d : Did) → Outcome e s d → d .end .number ≡ 0 → d .state .core .steps ≡ s .core .steps + 1
 moved-steps e s d (stops r h) z = absurd (h z)
-moved-steps e s d (flows c rs cs h k) z = h
-moved-steps e s d sends z = refl
+moved-steps e s d (flows c rs cs f) z = f .steps
+moved-steps e s d (holds g) z = refl
+moved-steps e s d (sends g) z = refl
 
 pub steps-are-taken : StepsAreTaken
 unfolding runOf taken
@@ -66,8 +67,9 @@ record Over (s : State) (d : Did) : Type 0 where
 
 over-step : (e : Fixed) (s : State) (d : Did) → Outcome e s d → Over s d
 over-step e s d (stops r h) = record { waits = refl; totals = refl }
-over-step e s d (flows c rs cs h k) = record { waits = refl; totals = refl }
-over-step e s d sends = record { waits = refl; totals = refl }
+over-step e s d (flows c rs cs f) = record { waits = refl; totals = refl }
+over-step e s d (holds g) = record { waits = refl; totals = refl }
+over-step e s d (sends g) = record { waits = refl; totals = refl }
 
 over-then : (s : State) (d r : Did) (b : Bool) → Over s d → Over (d .state) r → Over s (pick b (onto (d .out) r) d)
 over-then s d r true p q = record {

@@ -1,11 +1,11 @@
--- One step has three outcomes: it stops with a number and alters nothing, it moves and dispatches nothing, or it sends a group.
+-- One step has four outcomes: it stops with a number and alters nothing, it flows on with nothing held, it holds a word, or it sends a group.
 -- What is promised of single steps follows from that. Assumes nothing.
-use mathlib.Core.Path.{_≡_, refl, sym, ap, _∙_, subst}
-use mathlib.Core.Bool.{Bool, true, false}
+use mathlib.Core.Path.{_≡_, refl, sym, ap, _∙_}
+use mathlib.Core.Bool.{Bool, true, false, true≢false}
 use mathlib.Core.List.{List, []}
-use Prim.Native.Nat.{ℕ, _+_, _-_}
+use Prim.Native.Nat.{ℕ, _+_, _-_, _<_}
 use native.Mathlib.Omega.{arith}
-use borrow.Author.Tests.{eqb-false}
+use borrow.Author.Tests.{eqb-false, ltb-true, ltb-false}
 use lib.Dec.{ltb, eqb, leb}
 use lib.ListN.{length, getD, set}
 use Rattle.instruction.specs.Bits.{pick}
@@ -15,18 +15,19 @@ use Rattle.instruction.specs.declared.Refusal.{Refusal}
 use Rattle.instruction.specs.declared.Instruction.{Instruction}
 use Rattle.instruction.specs.declared.Body.{Body}
 use Rattle.instruction.specs.declared.Body.the-variants.{Waveform, Marker, Wait, LoadRepeat, Repeat, Cmp, Goto, Call, Return, Sync, Modulator, LoadCmp, Prefetch, Noop}
-use Rattle.reader.specs.Reading.{formIn, judged, readingOf}
+use Rattle.reader.specs.Reading.{formIn, judged, readingOf, numberOf}
 use Rattle.reader.specs.declared.Reading.{Reading}
 use Rattle.reader.specs.declared.Reading.the-variants.{Accepted, Refused}
+use Rattle.reader.proofs.Laws.{reads-instruction}
 use Rattle.sequence.specs.Placing.{placingOf}
 use Rattle.dispatch.proofs.Counts.{picks}
 use Rattle.instruction.specs.Form.{numbered}
 use Rattle.jumps.specs.State.{Fixed, Did, stateOf, withCore, refusedBy, stop, moves}
-use Rattle.jumps.specs.Jumps.{acts, callOf, returnOf, messageOf}
+use Rattle.jumps.specs.Jumps.{repeatOf, acts, gotoOf, callOf, returnOf, messageOf, holdOf}
 use Rattle.jumps.specs.declared.Core.{Core}
 use Rattle.jumps.specs.declared.State.{State}
 use Rattle.machine.specs.Step.{groupOf, sent, sendOf, engineOf, anyAbove, syncOf, actOf, breaksGroup, executeOf, withReading, stepOf}
-use Rattle.demands.specs.Run.{StopsStill}
+use Rattle.demands.specs.Run.{isDispatched, Reads, StopsStill}
 
 -- ---- a refused word has a number
 
@@ -49,7 +50,22 @@ reading-number w r q z = by (eqb w noopWord) q
     by true p = let x : _≡_ {A = ℕ} 0 1 = cc in omega arith
     by false p = refused-number (formIn w) (spelledBy w) r (eqb (formIn w) 0) refl p z
 
--- ---- the three outcomes
+-- ---- a word that goes out
+
+-- a reading is of a word that goes out
+abbrev dispatches : Reading → Bool
+dispatches (Accepted i) = isDispatched (i .body)
+dispatches (Refused r) = false
+
+-- it is no NOOP, so it reads as what its fields spell
+reads-of : (w : ℕ) (i : Instruction) → readingOf w ≡ Accepted i → isDispatched (i .body) ≡ true → Reads w
+reads-of w i r q = by (eqb w noopWord) (reads-instruction w (ap numberOf r))
+  where
+    by : (b : Bool) → Accepted (pick b noop (spelledBy w)) ≡ readingOf w → Reads w
+    by true p = absurd (true≢false (sym (ap dispatches (p ∙ r) ∙ q)))
+    by false p = record { form = sym p; kind = ap dispatches (p ∙ r) ∙ q }
+
+-- ---- the four outcomes
 
 -- depth, return addresses and counters after a step of flow: they stay, a CALL pushed, or a RETURN popped
 pub data Stacked (s : State) : ℕ → List ℕ → List ℕ → Type 0 where
@@ -57,95 +73,123 @@ pub data Stacked (s : State) : ℕ → List ℕ → List ℕ → Type 0 where
   pushes : (a k : ℕ) → Stacked s (s .core .depth + 1) (set (s .returns) (s .core .depth) a) (set (s .counters) (s .core .depth) k)
   pops : Stacked s (s .core .depth - 1) (set (s .returns) (s .core .depth - 1) 0) (set (s .counters) (s .core .depth - 1) 0)
 
+-- after a step of flow: it is counted, and nothing is held
+pub record Flows (s : State) (c : Core) (rs cs : List ℕ) : Type 0 where
+  pub steps : c .steps ≡ s .core .steps + 1
+  pub held : c .held ≡ 0
+  pub stack : Stacked s (c .depth) rs cs
+
+-- the word at the address goes out, now or with the group that it is held for
+pub record Goes (e : Fixed) (s : State) : Type 0 where
+  pub inside : s .core .address .0 < length (e .words)
+  pub reads : Reads (getD (e .words) (s .core .address .0) 0)
+
 pub data Outcome (e : Fixed) (s : State) : Did → Type 0 where
   stops : (r : Refusal) → (r .number ≡ 0 → ⊥) → Outcome e s (refusedBy r s)
-  flows : (c : Core) (rs cs : List ℕ) → c .steps ≡ s .core .steps + 1 → Stacked s (c .depth) rs cs → Outcome e s (moves (stateOf c rs cs (s .waits) (s .totals)))
-  sends : Outcome e s (record { end = numbered 0; state = sent e s; out = groupOf e (s .core) })
+  flows : (c : Core) (rs cs : List ℕ) → Flows s c rs cs → Outcome e s (moves (stateOf c rs cs (s .waits) (s .totals)))
+  holds : Goes e s → Outcome e s (moves (withCore (holdOf (s .core)) s))
+  sends : Goes e s → Outcome e s (record { end = numbered 0; state = sent e s; out = groupOf e (s .core) })
 
 module _ (e : Fixed) (s : State) where
   stop-at : (n : ℕ) → (n ≡ 0 → ⊥) → Outcome e s (stop n s)
   stop-at n h = stops (numbered n) h
 
-  goes-on : (c : Core) → c .steps ≡ s .core .steps + 1 → c .depth ≡ s .core .depth → Outcome e s (moves (withCore c s))
-  goes-on c h d = flows c (s .returns) (s .counters) h (subst (λ (k : ℕ). Stacked s k (s .returns) (s .counters)) (sym d) stays)
+  -- flow, where nothing is held
+  module _ (free : s .core .held ≡ 0) where
+    moves-on : (c : Core) (rs cs : List ℕ) → c .steps ≡ s .core .steps + 1 → c .held ≡ s .core .held → Stacked s (c .depth) rs cs → Outcome e s (moves (stateOf c rs cs (s .waits) (s .totals)))
+    moves-on c rs cs k h t = flows c rs cs (record { steps = k; held = h ∙ free; stack = t })
 
-  call-outcome : (a : ℕ) → Outcome e s (callOf s a)
-  unfolding callOf
-  call-outcome a =
-      picks (Outcome e s) (acts (s .core .condition))
-      (λ _. picks (Outcome e s) (ltb (s .core .depth) 16) (λ _. flows _ _ _ refl (pushes _ _)) (λ _. stop-at 31 (λ z. omega (arith, z))))
-      (λ _. goes-on _ refl refl)
+    call-outcome : (a : ℕ) → Outcome e s (callOf s a)
+    unfolding callOf
+    call-outcome a =
+        picks (Outcome e s) (acts (s .core .condition))
+        (λ _. picks (Outcome e s) (ltb (s .core .depth) 16) (λ _. moves-on _ _ _ refl refl (pushes _ _)) (λ _. stop-at 31 (λ z. omega (arith, z))))
+        (λ _. moves-on _ _ _ refl refl stays)
 
-  return-outcome : Outcome e s (returnOf s)
-  unfolding returnOf
-  return-outcome =
-      picks (Outcome e s) (acts (s .core .condition))
-      (λ _. picks (Outcome e s) (ltb 0 (s .core .depth)) (λ _. flows _ _ _ refl pops) (λ _. stop-at 32 (λ z. omega (arith, z))))
-      (λ _. goes-on _ refl refl)
+    return-outcome : Outcome e s (returnOf s)
+    unfolding returnOf
+    return-outcome =
+        picks (Outcome e s) (acts (s .core .condition))
+        (λ _. picks (Outcome e s) (ltb 0 (s .core .depth)) (λ _. moves-on _ _ _ refl refl pops) (λ _. stop-at 32 (λ z. omega (arith, z))))
+        (λ _. moves-on _ _ _ refl refl stays)
 
-  message-outcome : (m : List ℕ) → Outcome e s (messageOf m s)
-  unfolding messageOf
-  message-outcome m = picks (Outcome e s) (ltb (s .core .used) (length m)) (λ _. goes-on _ refl refl) (λ _. stop-at 42 (λ z. omega (arith, z)))
+    message-outcome : (m : List ℕ) → Outcome e s (messageOf m s)
+    unfolding messageOf
+    message-outcome m = picks (Outcome e s) (ltb (s .core .used) (length m)) (λ _. moves-on _ _ _ refl refl stays) (λ _. stop-at 42 (λ z. omega (arith, z)))
 
-  send-outcome : Outcome e s (sendOf e s)
-  unfolding sendOf
-  send-outcome = picks (Outcome e s) (leb (s .core .sent + (s .core .held + 1)) (e .room)) (λ _. sends) (λ _. stop-at 43 (λ z. omega (arith, z)))
+    repeat-outcome : (a : ℕ) → Outcome e s (moves (withCore (repeatOf (s .core) a) s))
+    repeat-outcome a =
+        picks (λ (c : Core). Outcome e s (moves (withCore c s))) (eqb (s .core .counter) 0)
+        (λ _. moves-on _ _ _ refl refl stays) (λ _. moves-on _ _ _ refl refl stays)
 
-  sync-outcome : Outcome e s (syncOf e s)
-  unfolding syncOf
-  sync-outcome = picks (Outcome e s) (anyAbove (e .setting .triggers) (s .waits)) (λ _. stop-at 41 (λ z. omega (arith, z))) (λ _. send-outcome)
+    goto-outcome : (a : ℕ) → Outcome e s (moves (withCore (gotoOf (s .core) a) s))
+    goto-outcome a =
+        picks (λ (c : Core). Outcome e s (moves (withCore c s))) (acts (s .core .condition))
+        (λ _. moves-on _ _ _ refl refl stays) (λ _. moves-on _ _ _ refl refl stays)
 
-  engine-outcome : (w : ℕ) → Outcome e s (engineOf e s w)
-  unfolding engineOf
-  engine-outcome w = picks (Outcome e s) (eqb w 0) (λ _. goes-on _ refl refl) (λ _. send-outcome)
+  module _ (g : Goes e s) where
+    send-outcome : Outcome e s (sendOf e s)
+    unfolding sendOf
+    send-outcome = picks (Outcome e s) (leb (s .core .sent + (s .core .held + 1)) (e .room)) (λ _. sends g) (λ _. stop-at 43 (λ z. omega (arith, z)))
 
-  core-outcome : (t : Bool) (c d : Core) → Outcome e s (moves (withCore c s)) → Outcome e s (moves (withCore d s)) → Outcome e s (moves (withCore (pick t c d) s))
-  core-outcome true c d p q = p
-  core-outcome false c d p q = q
+    sync-outcome : Outcome e s (syncOf e s)
+    unfolding syncOf
+    sync-outcome = picks (Outcome e s) (anyAbove (e .setting .triggers) (s .waits)) (λ _. stop-at 41 (λ z. omega (arith, z))) (λ _. send-outcome)
 
-  act-outcome : (w : ℕ) (b : Body) → Outcome e s (actOf e s w b)
+    engine-outcome : (w : ℕ) → Outcome e s (engineOf e s w)
+    unfolding engineOf
+    engine-outcome w = picks (Outcome e s) (eqb w 0) (λ _. holds g) (λ _. send-outcome)
+
+  -- what 22 lets through: no word but an engine word while a group is held
+  nothing : ltb 0 (s .core .held) ≡ false → s .core .held ≡ 0
+  nothing t = omega (arith, ltb-false 0 (s .core .held) t)
+
+  act-outcome : (w : ℕ) (b : Body) → (isDispatched b ≡ true → Goes e s) → breaksGroup (s .core .held) w b ≡ false → Outcome e s (actOf e s w b)
   unfolding actOf
-  act-outcome w (Waveform f) = engine-outcome w
-  act-outcome w (Marker f) = engine-outcome w
-  act-outcome w Wait = send-outcome
-  act-outcome w (LoadRepeat n) = goes-on _ refl refl
-  act-outcome w (Repeat a) = core-outcome (eqb (s .core .counter) 0) _ _ (goes-on _ refl refl) (goes-on _ refl refl)
-  act-outcome w (Cmp x) = goes-on _ refl refl
-  act-outcome w (Goto a) = core-outcome (acts (s .core .condition)) _ _ (goes-on _ refl refl) (goes-on _ refl refl)
-  act-outcome w (Call a) = call-outcome (a .0)
-  act-outcome w (Return p) = return-outcome
-  act-outcome w Sync = sync-outcome
-  act-outcome w (Modulator f) = engine-outcome w
-  act-outcome w (LoadCmp p) = message-outcome (e .messages)
-  act-outcome w (Prefetch a) = goes-on _ refl refl
-  act-outcome w Noop = goes-on _ refl refl
+  act-outcome w (Waveform f) g t = engine-outcome (g refl) w
+  act-outcome w (Marker f) g t = engine-outcome (g refl) w
+  act-outcome w Wait g t = send-outcome (g refl)
+  act-outcome w (LoadRepeat n) g t = moves-on (nothing t) _ _ _ refl refl stays
+  act-outcome w (Repeat a) g t = repeat-outcome (nothing t) (a .0)
+  act-outcome w (Cmp x) g t = moves-on (nothing t) _ _ _ refl refl stays
+  act-outcome w (Goto a) g t = goto-outcome (nothing t) (a .0)
+  act-outcome w (Call a) g t = call-outcome (nothing t) (a .0)
+  act-outcome w (Return p) g t = return-outcome (nothing t)
+  act-outcome w Sync g t = sync-outcome (g refl)
+  act-outcome w (Modulator f) g t = engine-outcome (g refl) w
+  act-outcome w (LoadCmp p) g t = message-outcome (nothing t) (e .messages)
+  act-outcome w (Prefetch a) g t = moves-on (nothing t) _ _ _ refl refl stays
+  act-outcome w Noop g t = moves-on (nothing t) _ _ _ refl refl stays
 
-  execute-outcome : (i : Instruction) → Outcome e s (executeOf e s i)
-  unfolding executeOf
-  execute-outcome i =
-      let n : ℕ = placingOf (e .setting .wave .0) (length (e .words)) (i .body) in
-      picks (Outcome e s) (eqb n 0)
-      (λ _. picks (Outcome e s) (breaksGroup (s .core .held) (i .write) (i .body)) (λ _. stop-at 22 (λ z. omega (arith, z))) (λ _. act-outcome (i .write) (i .body)))
-      (λ t. stop-at n (eqb-false n 0 t))
+  module _ (inside : s .core .address .0 < length (e .words)) where
+    execute-outcome : (i : Instruction) → readingOf (getD (e .words) (s .core .address .0) 0) ≡ Accepted i → Outcome e s (executeOf e s i)
+    unfolding executeOf
+    execute-outcome i r =
+        let n : ℕ = placingOf (e .setting .wave .0) (length (e .words)) (i .body) in
+        picks (Outcome e s) (eqb n 0)
+        (λ _. picks (Outcome e s) (breaksGroup (s .core .held) (i .write) (i .body)) (λ _. stop-at 22 (λ z. omega (arith, z)))
+        (λ t. act-outcome (i .write) (i .body) (λ q. record { inside = inside; reads = reads-of (getD (e .words) (s .core .address .0) 0) i r q }) t))
+        (λ t. stop-at n (eqb-false n 0 t))
 
-  reading-outcome : (w : ℕ) (q : Reading) → readingOf w ≡ q → Outcome e s (withReading e s q)
-  unfolding withReading
-  reading-outcome w (Accepted i) p = execute-outcome i
-  reading-outcome w (Refused r) p = stops r (reading-number w r p)
+    reading-outcome : (q : Reading) → readingOf (getD (e .words) (s .core .address .0) 0) ≡ q → Outcome e s (withReading e s q)
+    unfolding withReading
+    reading-outcome (Accepted i) p = execute-outcome i p
+    reading-outcome (Refused r) p = stops r (reading-number (getD (e .words) (s .core .address .0) 0) r p)
 
   pub outcome : Outcome e s (stepOf e s)
   unfolding stepOf
   outcome =
       picks (Outcome e s) (ltb (s .core .address .0) (length (e .words)))
-      (λ _. reading-outcome (getD (e .words) (s .core .address .0) 0) (readingOf (getD (e .words) (s .core .address .0) 0)) refl)
+      (λ t. reading-outcome (ltb-true (s .core .address .0) (length (e .words)) t) (readingOf (getD (e .words) (s .core .address .0) 0)) refl)
       (λ _. stop-at 30 (λ z. omega (arith, z)))
 
 -- ---- what follows
 
 stops-still-of : (e : Fixed) (s : State) (d : Did) → Outcome e s d → (d .end .number ≡ 0 → ⊥) → (d .state ≡ s) × (d .out ≡ [])
 stops-still-of e s d (stops r h) z = (refl, refl)
-stops-still-of e s d (flows c rs cs h k) z = absurd (z refl)
-stops-still-of e s d sends z = absurd (z refl)
+stops-still-of e s d (flows c rs cs f) z = absurd (z refl)
+stops-still-of e s d (holds g) z = absurd (z refl)
+stops-still-of e s d (sends g) z = absurd (z refl)
 
 pub stops-still : StopsStill
 stops-still e s = stops-still-of e s (stepOf e s) (outcome e s)

@@ -1,6 +1,7 @@
 -- What a run promises, for every sequence, checked or not.
 -- Demand 2: "down to the last dispatched word, counter and total". Demand 3: what was rehearsed is what the longer run starts with.
 use mathlib.Core.Path.{_≡_}
+use mathlib.Core.Bool.{Bool, true, _||_}
 use mathlib.Core.List.{List, [], _∷_, _++_}
 use Prim.Native.Nat.{ℕ, zero, suc, _+_, _≤_, _<_}
 use lib.Dec.{eqb}
@@ -9,8 +10,12 @@ use Rattle.instruction.specs.Bits.{pick}
 use Rattle.instruction.specs.Table.{codeOf}
 use Rattle.instruction.specs.Word.{spelledBy}
 use Rattle.instruction.specs.declared.Instruction.{Instruction}
-use Rattle.instruction.specs.declared.Body.the-variants.{Wait}
+use Rattle.instruction.specs.declared.Body.{Body}
+use Rattle.instruction.specs.declared.Body.the-variants.{Wait, Sync}
+use Rattle.reader.specs.Reading.{readingOf}
+use Rattle.reader.specs.declared.Reading.the-variants.{Accepted}
 use Rattle.sequence.specs.Bounds.{stackDepth, budgetLimit}
+use Rattle.sequence.specs.Placing.{isEngine}
 use Rattle.dispatch.specs.Engines.{engineCount, engineOf, waitsFor, playsFor}
 use Rattle.jumps.specs.State.{Fixed}
 use Rattle.jumps.specs.declared.State.{State}
@@ -39,6 +44,23 @@ Prefix =
 -- "trace length": as many words as were dispatched
 abbrev pub SentIsLength : Type 0
 SentIsLength = (e : Fixed) (budget : ℕ) → rehearse budget e .state .core .sent ≡ length (rehearse budget e .out)
+
+-- "Dispatch writes engine words, WAIT and SYNC as they stand into the trace"
+abbrev pub isDispatched : Body → Bool
+isDispatched b = isEngine b || eqb (codeOf b) (codeOf Wait) || eqb (codeOf b) (codeOf Sync)
+
+-- a word has passed form, and what its fields spell, which the engines count, is one of those
+pub record Reads (word : ℕ) : Type 0 where
+  pub form : readingOf word ≡ Accepted (spelledBy word)
+  pub kind : isDispatched (spelledBy word .body) ≡ true
+
+-- what holds of each word of a list
+abbrev pub Every : (ℕ → Type 0) → List ℕ → Type 0
+Every P [] = Unit {0}
+Every P (word ∷ words) = P word × Every P words
+
+abbrev pub TraceReads : Type 0
+TraceReads = (e : Fixed) (budget : ℕ) → Every Reads (rehearse budget e .out)
 
 -- ---- the stack
 

@@ -1,0 +1,60 @@
+-- `trace-reads`: the words that are held stand right below the address and read, so that each group that is sent reads.
+-- Assumes nothing.
+use mathlib.Core.Path.{_≡_, refl, sym, ap, _∙_, subst}
+use mathlib.Core.List.{List, [], _∷_, _++_, append-nil}
+use Prim.Native.Nat.{ℕ, _+_, _-_, _≤_, _<_}
+use native.Mathlib.Numerals.{add-one}
+use native.Mathlib.Omega.{arith}
+use lib.ListN.{length, getD, take, drop, length-drop}
+use lib.Seq.{take-suc, getD-drop}
+use Rattle.dispatch.specs.Trace.{part}
+use Rattle.jumps.specs.State.{Fixed, Did}
+use Rattle.jumps.specs.declared.Core.{Core}
+use Rattle.jumps.specs.declared.State.{State}
+use Rattle.machine.specs.Step.{groupOf, stepOf}
+use Rattle.machine.specs.Kept.{Good}
+use Rattle.demands.specs.Run.{Reads, Every, TraceReads}
+use Rattle.demands.proofs.Steps.{Goes, Outcome, stops, flows, holds, sends, outcome}
+use Rattle.demands.proofs.Along.{all-along}
+
+every-append : (xs ys : List ℕ) → Every Reads xs → Every Reads ys → Every Reads (xs ++ ys)
+every-append [] ys p q = q
+every-append (x ∷ xs) ys p q = (p .0, every-append xs ys (p .1) q)
+
+-- the words that are held, right below the address
+abbrev heldWords : Fixed → Core → List ℕ
+heldWords e c = part (c .address .0 - c .held) (c .held) (e .words)
+
+-- a group is the words that are held, and the word at the address
+group-is : (words : List ℕ) (a h : ℕ) → h ≤ a → a < length words → part (a - h) (h + 1) words ≡ part (a - h) h words ++ (getD words a 0 ∷ [])
+group-is words a h l k =
+    let m : h < length (drop (a - h) words) = rw length-drop (omega arith) in
+    let n : a - h + h ≡ a = omega arith in
+    rw (add-one, take-suc (drop (a - h) words) h 0, getD-drop (a - h) words h 0, n)
+
+-- what is dispatched so far reads, and so does what is held
+record Read (e : Fixed) (out : List ℕ) (c : Core) : Type 0 where
+  sent : Every Reads out
+  held : Every Reads (heldWords e c)
+
+module _ (e : Fixed) (out : List ℕ) (s : State) (b : Good e s) (p : Read e out (s .core)) where
+  group-reads : Goes e s → Every Reads (groupOf e (s .core))
+  group-reads g =
+      subst (Every Reads) (sym (group-is (e .words) (s .core .address .0) (s .core .held) (b .behind) (g .inside)))
+      (every-append (heldWords e (s .core)) (getD (e .words) (s .core .address .0) 0 ∷ []) (p .held) (g .reads, tt))
+
+  quiet : Every Reads (out ++ [])
+  quiet = subst (Every Reads) (sym (append-nil out)) (p .sent)
+
+  read-step : (d : Did) → Outcome e s d → Read e (out ++ d .out) (d .state .core)
+  read-step d (stops r h) = record { sent = quiet; held = p .held }
+  read-step d (flows c rs cs f) = record { sent = quiet; held = subst (λ (h : ℕ). Every Reads (part (c .address .0 - h) h (e .words))) (sym (f .held)) tt }
+  read-step d (holds g) = record { sent = quiet; held = subst (λ (a : ℕ). Every Reads (part a (s .core .held + 1) (e .words))) below (group-reads g) }
+    where
+      below : s .core .address .0 - s .core .held ≡ s .core .address .0 + 1 - (s .core .held + 1)
+      below = omega arith
+  read-step d (sends g) = record { sent = every-append out (groupOf e (s .core)) (p .sent) (group-reads g); held = tt }
+
+pub trace-reads : TraceReads
+trace-reads e budget =
+    all-along e (λ out s. Read e out (s .core)) (λ out s b p. read-step e out s b p (stepOf e s) (outcome e s)) (record { sent = tt; held = tt }) budget .sent
