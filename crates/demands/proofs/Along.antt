@@ -11,13 +11,13 @@ use lib.ListN.{length, getD, set, replicate, length-append, length-set}
 use lib.Seq.{getD-set-other}
 use Rattle.instruction.specs.Bits.{pick}
 use Rattle.sequence.specs.Bounds.{stackDepth}
-use Rattle.dispatch.proofs.Counts.{picks}
-use Rattle.jumps.specs.State.{Fixed, Did, fresh, stop}
+use Rattle.jumps.specs.State.{Fixed, Did, fresh}
 use Rattle.jumps.specs.declared.State.{State}
 use Rattle.machine.specs.Step.{stepOf}
 use Rattle.machine.specs.Kept.{Good}
 use Rattle.machine.proofs.Kept.{kept, fresh-good}
 use Rattle.rehearsal.specs.Run.{onto, runOf, inputRefused, rehearse}
+use Rattle.rehearsal.proofs.Runs.{rehearse-refused, rehearse-runs}
 use Rattle.demands.specs.Run.{SentIsLength, Stack, UnusedAreZero}
 use Rattle.demands.proofs.Steps.{Stacked, stays, pushes, pops, Outcome, stops, flows, holds, sends, outcome}
 use Rattle.demands.proofs.Runs.{zero-at}
@@ -42,10 +42,11 @@ module _ (e : Fixed) (P : List ℕ → State → Type 0)
       by false r = q
 
   pub all-along : P [] fresh → (budget : ℕ) → P (rehearse budget e .out) (rehearse budget e .state)
-  unfolding rehearse
-  all-along p budget =
-      let n : ℕ = inputRefused (length (e .words)) (e .setting .wave .0) budget in
-      picks (λ (d : Did). P (d .out) (d .state)) (eqb n 0) {a = runOf budget e fresh} {b = stop n fresh} (λ _. along-run budget [] fresh (fresh-good e) p) (λ _. p)
+  all-along p budget = by (ℕ-discrete (inputRefused (length (e .words)) (e .setting .wave .0) budget) 0)
+    where
+      by : Dec (inputRefused (length (e .words)) (e .setting .wave .0) budget ≡ 0) → P (rehearse budget e .out) (rehearse budget e .state)
+      by (yes z) = subst (λ (d : Did). P (d .out) (d .state)) (sym (rehearse-runs budget e z)) (along-run budget [] fresh (fresh-good e) p)
+      by (no h) = subst (λ (d : Did). P (d .out) (d .state)) (sym (rehearse-refused budget e _ refl h)) p
 
 -- ---- the trace length
 

@@ -1,11 +1,11 @@
 -- `trace-reads`: the words that are held stand right below the address and read, so that each group that is sent reads.
 -- Assumes nothing.
-use mathlib.Core.Path.{_≡_, refl, sym, ap, _∙_, subst}
+use mathlib.Core.Path.{_≡_, sym, subst}
 use mathlib.Core.List.{List, [], _∷_, _++_, append-nil}
 use Prim.Native.Nat.{ℕ, _+_, _-_, _≤_, _<_}
 use native.Mathlib.Numerals.{add-one}
 use native.Mathlib.Omega.{arith}
-use lib.ListN.{length, getD, take, drop, length-drop}
+use lib.ListN.{length, getD, drop, length-drop}
 use lib.Seq.{take-suc, getD-drop}
 use Rattle.dispatch.specs.Trace.{part}
 use Rattle.jumps.specs.State.{Fixed, Did}

@@ -1,23 +1,29 @@
 -- `worked-sequences`: P1 to P12 by computation; the flow of each that comes so far by a list of places that the walk cannot leave.
--- Assumes nothing.
+-- `p10-no-run-falls-off`: every second step is back at address 0. Assumes nothing.
 use mathlib.Core.Path.{_≡_, refl, ap, subst}
 use mathlib.Core.Bool.{Bool, true, false, not}
 use mathlib.Core.List.{List, [], _∷_}
-use Prim.Native.Nat.{ℕ, zero, suc, _≤_, _<_}
+use Prim.Native.Nat.{ℕ, zero, suc, _+_, _≤_, _<_}
 use native.Mathlib.Numerals.{add-one}
+use native.Mathlib.Decide.{ℕ-discrete}
 use native.Mathlib.Omega.{arith}
 use borrow.Author.Tests.{eqb-true, not-false}
-use lib.Dec.{eqb}
+use lib.Dec.{ltb, eqb}
 use lib.ListN.{length}
 use Rattle.instruction.specs.Form.{numbered, formOf}
 use Rattle.instruction.specs.Word.{spelledBy}
 use Rattle.reader.specs.Reading.{someBelow, hasUnnamed, notItsOp, formIn, readingOf}
 use Rattle.reader.proofs.Masks.{none-below}
-use Rattle.sequence.specs.Bounds.{stackDepth, lengthsRefused}
+use Rattle.sequence.specs.Bounds.{wordLimit, waveLimit, stackDepth, budgetLimit, lengthsRefused}
 use Rattle.sequence.specs.Placing.{placingOf}
+use Rattle.dispatch.proofs.Counts.{picks}
+use Rattle.jumps.specs.State.{Fixed, fixedBy, Did, freshCore, fresh, withCount, withCore}
 use Rattle.jumps.specs.Jumps.{callOf, returnOf, messageOf}
+use Rattle.jumps.specs.declared.Setting.{Setting}
+use Rattle.jumps.specs.declared.State.{State}
 use Rattle.machine.specs.Step.{sendOf, engineOf, syncOf, actOf, executeOf, withReading, stepOf}
 use Rattle.rehearsal.specs.Run.{runOf, inputRefused, rehearse}
+use Rattle.rehearsal.proofs.Runs.{rehearse-refused, rehearse-runs}
 use Rattle.flow.specs.Walk.{Reached, start, compare, enter, passed, other, goto, past, full, empty}
 use Rattle.verdict.specs.Flow.{FlowIs, sound, faulty}
 use Rattle.verdict.specs.Words.{isEngineWord, isHigh, closes, leftOpen, standsRefused, wordRefusal, Passes}
@@ -26,7 +32,7 @@ use Rattle.verdict.specs.Check.{verdict, WordsAre, CheckIs}
 use Rattle.verdict.specs.declared.Verdict.{Verdict}
 use Rattle.verdict.proofs.Unique.{one-words, one-flow}
 use Rattle.verdict.proofs.Words.{input-none}
-use Rattle.demands.specs.Worked.{fourWords, table, WorkedSequences}
+use Rattle.demands.specs.Worked.{fourWords, twoWords, table, WorkedSequences, NoRunFallsOff}
 use Rattle.demands.proofs.Certificate.{at, no-fault, no-lower}
 
 -- ---- what settles a check
@@ -81,11 +87,11 @@ p9 : FlowIs stackDepth (0x7000000000000002 ∷ 0x6000000000000001 ∷ 0x80000000
 unfolding spelledBy
 p9 = sound (no-fault stackDepth (0x7000000000000002 ∷ 0x6000000000000001 ∷ 0x8000000000000000 ∷ []) (at 0 0 false ∷ at 2 1 false ∷ at 1 0 false ∷ []) refl refl)
 
-p10 : FlowIs stackDepth (0x5000000000000000 ∷ 0x6000000000000000 ∷ []) 30 2
+p10 : FlowIs stackDepth twoWords 30 2
 unfolding spelledBy
 p10 =
     faulty (past (passed (compare start (omega arith) refl) (omega arith) goto))
-    (no-lower stackDepth (0x5000000000000000 ∷ 0x6000000000000000 ∷ []) (at 0 0 false ∷ at 1 0 true ∷ at 2 0 false ∷ []) 2 refl refl)
+    (no-lower stackDepth twoWords (at 0 0 false ∷ at 1 0 true ∷ at 2 0 false ∷ []) 2 refl refl)
 
 -- ---- the table
 
@@ -106,7 +112,38 @@ worked-sequences =
     also (by-flow 0 (0xFFFFFFFFFFFFFFFF ∷ []) 30 1 refl refl p7 also tt)
     also (by-flow 0 (0x7000000000000000 ∷ []) 31 0 refl refl p8 also tt)
     also (by-flow 0 (0x7000000000000002 ∷ 0x6000000000000001 ∷ 0x8000000000000000 ∷ []) 0 0 refl refl p9 also tt)
-    also (by-flow 0 (0x5000000000000000 ∷ 0x6000000000000000 ∷ []) 30 2 refl refl p10 also tt)
+    also (by-flow 0 twoWords 30 2 refl refl p10 also tt)
     also (by-word 0 (0x2100000000000000 ∷ []) (verdict (numbered 12) 0) refl (check.first {a = 0} (omega arith) (λ b l. absurd (omega arith)) (λ z. omega (arith, z))) (λ z. omega (arith, z)) also tt)
     also (refl also refl also refl also tt)
     also tt
+
+-- ---- P10 goes round and round
+
+-- at address 0 after k steps, all else fresh
+abbrev atZero : ℕ → State
+atZero k = withCore (withCount 0 k freshCore) fresh
+
+spends : (messages : List ℕ) (room : ℕ) (setting : Setting) (budget k : ℕ) → runOf budget (fixedBy twoWords messages room setting) (atZero k) .end .number ≡ 40
+unfolding readingOf formIn hasUnnamed notItsOp formOf spelledBy placingOf runOf stepOf withReading executeOf actOf
+spends messages room setting zero k = refl
+spends messages room setting (suc zero) k = refl
+spends messages room setting (suc (suc budget)) k = spends messages room setting budget (k + 1 + 1)
+
+-- "Input refusals: 1 .. 5"
+input-low : (n wave budget : ℕ) → inputRefused n wave budget ≤ 5
+unfolding inputRefused lengthsRefused
+input-low n wave budget =
+    let Low : ℕ → Type 0 = λ k. k ≤ 5 in
+    picks Low (not (eqb (lengthsRefused n wave) 0))
+    (λ _. picks Low (eqb n 0) (λ _. omega arith) (λ _. picks Low (ltb wordLimit n) (λ _. omega arith) (λ _. picks Low (ltb waveLimit wave) (λ _. omega arith) (λ _. omega arith))))
+    (λ _. picks Low (ltb budgetLimit budget) (λ _. omega arith) (λ _. omega arith))
+
+pub p10-no-run-falls-off : NoRunFallsOff twoWords
+p10-no-run-falls-off messages room setting budget = by (ℕ-discrete (inputRefused 2 (setting .wave .0) budget) 0)
+  where
+    e : Fixed
+    e = fixedBy twoWords messages room setting
+
+    by : Dec (inputRefused 2 (setting .wave .0) budget ≡ 0) → rehearse budget e .end .number ≡ 30 → ⊥
+    by (yes n) z = omega (arith, z, ap (λ (d : Did). d .end .number) (rehearse-runs budget e n), spends messages room setting budget 0)
+    by (no h) z = omega (arith, z, ap (λ (d : Did). d .end .number) (rehearse-refused budget e _ refl h), input-low 2 (setting .wave .0) budget)

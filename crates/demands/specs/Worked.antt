@@ -7,6 +7,7 @@ use lib.ListN.{length, getD, replicate}
 use Rattle.instruction.specs.Form.{numbered}
 use Rattle.dispatch.specs.Engines.{engineCount}
 use Rattle.jumps.specs.State.{Did, fixedBy}
+use Rattle.jumps.specs.declared.Setting.{Setting}
 use Rattle.rehearsal.specs.Run.{rehearse}
 use Rattle.verdict.specs.Check.{verdict, CheckIs}
 use Rattle.verdict.specs.declared.Verdict.{Verdict}
@@ -51,6 +52,10 @@ fourWords = 0x9100800000000000 ∷ 0x2100400000000000 ∷ 0x0100000004000001 ∷
 abbrev pub threePasses : List ℕ
 threePasses = 0x3000000000000002 ∷ 0x0100000004000001 ∷ 0x4000000000000001 ∷ 0x6000000000000003 ∷ []
 
+-- CMP = 0, GOTO 0
+abbrev pub twoWords : List ℕ
+twoWords = 0x5000000000000000 ∷ 0x6000000000000000 ∷ []
+
 abbrev pub table : List Row
 table =
     -- "P1 the four words above, W 5: accepted. P2 W 4: 20 at 2."
@@ -70,7 +75,7 @@ table =
     -- "P9 CALL 2, GOTO 1, RETURN: accepted."
     ∷ checked (0x7000000000000002 ∷ 0x6000000000000001 ∷ 0x8000000000000000 ∷ []) 0 0 0
     -- "P10 CMP = 0, GOTO 0: 30 at 2, though no run falls off."
-    ∷ checked (0x5000000000000000 ∷ 0x6000000000000000 ∷ []) 0 30 2
+    ∷ checked twoWords 0 30 2
     -- "P11 2100000000000000: 12."
     ∷ checked (0x2100000000000000 ∷ []) 0 12 0
     -- "P12 LOAD_CMP, GOTO 0, message 7, budget 10: 42, 2 steps, register 7."
@@ -102,3 +107,9 @@ HoldsAll r (s ∷ says) = Holds r s × HoldsAll r says
 abbrev pub WorkedSequences : List Row → Type 0
 WorkedSequences [] = Unit {0}
 WorkedSequences (r ∷ rows) = HoldsAll r (r .says) × WorkedSequences rows
+
+-- P10: "though no run falls off", whatever messages, room, W, triggers and budget it gets
+abbrev pub NoRunFallsOff : List ℕ → Type 0
+NoRunFallsOff words =
+    (messages : List ℕ) (room : ℕ) (setting : Setting) (budget : ℕ)
+    → rehearse budget (fixedBy words messages room setting) .end .number ≡ 30 → ⊥
