@@ -1,5 +1,5 @@
--- What holds of the fresh state with nothing dispatched, and is kept by every step, holds at the end of every run.
--- Assumes nothing.
+-- What holds of the fresh state with nothing dispatched, and is kept by every step, holds at the end of every run (`all-along`).
+-- So `sent-is-length` and `unused-are-zero`. Assumes nothing.
 use mathlib.Core.Path.{_≡_, refl, sym, ap, _∙_, subst}
 use mathlib.Core.Bool.{Bool, true, false}
 use mathlib.Core.List.{List, [], _∷_, _++_, append-nil, append-assoc}

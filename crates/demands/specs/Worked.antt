@@ -1,5 +1,5 @@
 -- The worked sequences of document 01 ("P is proved"): P1 to P12, one table under one claim about the definitions, check and run alike.
--- A row says of the answer what document 01 says, and no more.
+-- A row says of the answer what document 01 says, and no more; that no run of P10 falls off stands last.
 use mathlib.Core.Path.{_≡_}
 use mathlib.Core.List.{List, [], _∷_}
 use Prim.Native.Nat.{ℕ, _≤_}
