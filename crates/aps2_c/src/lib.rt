@@ -5,6 +5,7 @@ ghost use mathlib.Core.Bool.{false};
 ghost use lib.ListN.{length};
 ghost use Rattle.instruction.specs.Table.{bodyOf};
 ghost use Rattle.reader.specs.Reading.{readingOf};
+ghost use Rattle.buffer.specs.Put.{Fits, Put};
 ghost use Rattle.jumps.specs.State.{fixedBy};
 ghost use Rattle.rehearsal.specs.Run.{rehearse};
 ghost use Rattle.listing.specs.Listing.{listingOf, Listed};
@@ -220,71 +221,38 @@ fn condition_of(c: Condition) -> u64
     }
 }
 
+// A part of the answer, from a place on; the place behind it.
+fn lay(out: &mut [u64], at: usize, part: &[u64]) -> usize
+    requires { ⌜ Fits (now part) (now out) at ⌝ }
+    ensures { λ r. ⌜ Put (now (part .entry)) (now (out .entry)) at (now (out .exit)) r ⌝ }
+{
+    let mut i: usize = 0;
+    while i < part.len() {
+        out[at + i] = part[i];
+        i += 1;
+    }
+    at + i
+}
+
 fn flat(condition: u64, a: Answer) -> [u64; Lent::ANSWER]
     ensures { λ r. ⌜ r ≡ flatWith condition a ⌝ }
 {
     let state = a.state;
     let c = state.core;
-    let w = state.waits;
-    let t = state.totals;
-    let r = state.returns;
-    let k = state.counters;
-    [
-        a.end.number,
-        c.address.0,
-        c.steps,
-        c.used,
-        c.sent,
-        w[0],
-        w[1],
-        w[2],
-        w[3],
-        w[4],
-        w[5],
-        t[0],
-        t[1],
-        t[2],
-        t[3],
-        t[4],
-        t[5],
-        c.counter,
-        c.register,
-        condition,
-        c.held,
-        c.depth,
-        r[0],
-        r[1],
-        r[2],
-        r[3],
-        r[4],
-        r[5],
-        r[6],
-        r[7],
-        r[8],
-        r[9],
-        r[10],
-        r[11],
-        r[12],
-        r[13],
-        r[14],
-        r[15],
-        k[0],
-        k[1],
-        k[2],
-        k[3],
-        k[4],
-        k[5],
-        k[6],
-        k[7],
-        k[8],
-        k[9],
-        k[10],
-        k[11],
-        k[12],
-        k[13],
-        k[14],
-        k[15],
-    ]
+    let waits = state.waits;
+    let totals = state.totals;
+    let returns = state.returns;
+    let counters = state.counters;
+    let first = [a.end.number, c.address.0, c.steps, c.used, c.sent];
+    let middle = [c.counter, c.register, condition, c.held, c.depth];
+    let mut out = [0u64; Lent::ANSWER];
+    let mut at = lay(&mut out, 0, &first);
+    at = lay(&mut out, at, &waits);
+    at = lay(&mut out, at, &totals);
+    at = lay(&mut out, at, &middle);
+    at = lay(&mut out, at, &returns);
+    lay(&mut out, at, &counters);
+    out
 }
 
 #[no_mangle]
