@@ -1,4 +1,5 @@
-/* The second program: document 01 once more, in C, written from the document and never from the proved code.
+/* The second program: document 01 once more, in C, written from the document and never from the proved code. All but places.c
+   was reworked afterwards for the benchmark (docs/DECISIONS.md).
    It is what the proved code is compared with. Names and meanings are those of include/aps2.h. */
 #ifndef SECOND_H
 #define SECOND_H

@@ -2,6 +2,7 @@
 // Each comes as text for a person or as an object for a script, and its exit status last.
 use crate::space;
 use instruction::QuadSamples;
+use instruction::WordAddress;
 use json::file;
 use json::state as by_name;
 use rehearsal::Answer;
@@ -28,21 +29,21 @@ pub fn list(words: &[u64], asked: Asked) {
     told::ends(told::ACCEPTED, 0);
 }
 
-fn say_accepted(n: usize, wave: u64) {
+fn say_accepted(n: usize, wave: QuadSamples) {
     say(b"accepted: ");
     say_number(n as u64);
     say(b" words, ");
-    say_number(wave);
+    say_number(wave.0);
     say(b" quad-samples of waveform memory\n");
 }
 
-fn say_refused(words: &[u64], number: u64, place: usize) {
+fn say_refused(words: &[u64], number: u64, place: WordAddress) {
     say(b"refused: ");
     say_number(number);
     say_place(words, place);
 }
 
-pub fn check(words: &[u64], wave: u64) {
+pub fn check(words: &[u64], wave: QuadSamples) {
     let mut marks = space::for_words();
     let verdict = verdict::check(words, wave, &mut marks);
     let number = verdict.refusal.number;
@@ -77,7 +78,7 @@ fn status_of(number: u64) -> u64 {
 
 fn say_run(words: &[u64], trace: &[u64], answer: Answer) {
     say_end(answer.end.number);
-    say_place(words, answer.state.core.address.0 as usize);
+    say_place(words, answer.state.core.address);
     let state = answer.state;
     say_state(state);
     say_trace(trace);
@@ -88,7 +89,7 @@ fn say_run_by_name(words: &[u64], trace: &[u64], answer: Answer, asked: Asked) {
     file::begin(asked.file, status_of(end));
     file::say_member(b"end", end);
     file::say_member(b"words", words.len() as u64);
-    file::say_member(b"wave", asked.wave);
+    file::say_member(b"wave", asked.wave.0);
     let state = answer.state;
     by_name::say_state(state);
     file::say_key(b"trace");
@@ -115,7 +116,7 @@ fn tell(words: &[u64], trace: &[u64], answer: Answer, asked: Asked) {
 fn rehearse(words: &[u64], messages: &[u8], trace: &mut [u64], asked: Asked) {
     let answer = rehearsal::run(
         words,
-        QuadSamples(asked.wave),
+        asked.wave,
         messages,
         (asked.triggers & 0xffff_ffff) as u32,
         trace,

@@ -1,6 +1,7 @@
 // The check of several files, and of any number of them as JSON: a line for each, whatever became of those before it.
 // Nothing is kept between files but how many were accepted.
 use crate::space;
+use instruction::QuadSamples;
 use json::file;
 use request::asked;
 use request::asked::Asked;
@@ -81,16 +82,16 @@ fn say_verdict(n: u64, verdict: Verdict) {
     say_number(verdict.refusal.number);
     if n != 0 {
         say(b" at word ");
-        say_number(verdict.place as u64);
+        say_number(verdict.place.0);
     }
     say(b"\n");
 }
 
-fn say_verdict_by_name(n: u64, wave: u64, verdict: Verdict) {
+fn say_verdict_by_name(n: u64, wave: QuadSamples, verdict: Verdict) {
     file::say_member(b"number", verdict.refusal.number);
-    file::say_member(b"place", verdict.place as u64);
+    file::say_member(b"place", verdict.place.0);
     file::say_member(b"words", n);
-    file::say_member(b"wave", wave);
+    file::say_member(b"wave", wave.0);
     file::end();
 }
 

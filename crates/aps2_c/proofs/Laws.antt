@@ -8,24 +8,24 @@ use lib.ListN.{getD, length}
 use Rattle.instruction.specs.Bits.{allFit}
 use Rattle.instruction.specs.Table.{engineSelect, writeFlag}
 use Rattle.writer.specs.Writing.{writtenOf}
-use Rattle.aps2_c.specs.Fields.{shownOf, isName, filledPast, valuesAsked, asked, refusedBy, wishOf}
+use Rattle.aps2_c.specs.Fields.{numbersOf, isName, filledPast, valuesAsked, asked, notWritten, wishOf}
 
 module _ (fs : List ℕ) where
-  pub wish-past : filledPast false (length (shownOf (asked fs .body))) 0 (valuesAsked fs) ≡ true → wishOf fs ≡ refusedBy 23
+  pub wish-past : filledPast false (length (numbersOf (asked fs .body))) 0 (valuesAsked fs) ≡ true → wishOf fs ≡ notWritten 23
   unfolding wishOf
   wish-past p = rw p
 
-  pub wish-name : filledPast false (length (shownOf (asked fs .body))) 0 (valuesAsked fs) ≡ false → isName (getD fs 0 0) ≡ true
+  pub wish-name : filledPast false (length (numbersOf (asked fs .body))) 0 (valuesAsked fs) ≡ false → isName (getD fs 0 0) ≡ true
       → wishOf fs ≡ writtenOf (asked fs)
   unfolding wishOf
   wish-name p n = rw (p, n)
 
-  pub wish-none : filledPast false (length (shownOf (asked fs .body))) 0 (valuesAsked fs) ≡ false → isName (getD fs 0 0) ≡ false
-      → allFit (engineSelect ∷ writeFlag ∷ []) (getD fs 1 0 ∷ getD fs 2 0 ∷ []) ≡ true → wishOf fs ≡ refusedBy 10
+  pub wish-none : filledPast false (length (numbersOf (asked fs .body))) 0 (valuesAsked fs) ≡ false → isName (getD fs 0 0) ≡ false
+      → allFit (engineSelect ∷ writeFlag ∷ []) (getD fs 1 0 ∷ getD fs 2 0 ∷ []) ≡ true → wishOf fs ≡ notWritten 10
   unfolding wishOf
   wish-none p n h = rw (p, n, h)
 
-  pub wish-wide : filledPast false (length (shownOf (asked fs .body))) 0 (valuesAsked fs) ≡ false → isName (getD fs 0 0) ≡ false
-      → allFit (engineSelect ∷ writeFlag ∷ []) (getD fs 1 0 ∷ getD fs 2 0 ∷ []) ≡ false → wishOf fs ≡ refusedBy 23
+  pub wish-wide : filledPast false (length (numbersOf (asked fs .body))) 0 (valuesAsked fs) ≡ false → isName (getD fs 0 0) ≡ false
+      → allFit (engineSelect ∷ writeFlag ∷ []) (getD fs 1 0 ∷ getD fs 2 0 ∷ []) ≡ false → wishOf fs ≡ notWritten 23
   unfolding wishOf
   wish-wide p n h = rw (p, n, h)

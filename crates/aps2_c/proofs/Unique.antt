@@ -27,7 +27,7 @@ pub one-answer-aps2-check : (wave : ℕ) (words before : List ℕ) {r r′ : ℕ
 one-answer-aps2-check wave words before p q =
     let o = one-answer-check wave words before (p .verdict) (q .verdict) in (
       ap (λ (v : Verdict). v .refusal .number) (o .0),
-      p .place ∙ ap (λ (v : Verdict). v .place ∷ []) (o .0) ∙ sym (q .place),
+      p .place ∙ ap (λ (v : Verdict). v .place .0 ∷ []) (o .0) ∙ sym (q .place),
       o .1,
     )
 

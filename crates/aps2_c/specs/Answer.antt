@@ -35,14 +35,14 @@ flatWith condition a =
 abbrev pub flatOf : Answer → List ℕ
 flatOf a = flatWith (conditionOf (a .state .core .condition)) a
 
-abbrev pub answerOf : Did → Answer
-answerOf d = record { end = d .end; state = d .state }
+abbrev pub answerFrom : Did → Answer
+answerFrom d = record { end = d .end; state = d .state }
 
 -- what `aps2_run` answers, and what it leaves in the answer and in the trace
 pub record Ran (d : Did) (before after given : List ℕ) (r : ℕ) : Type 0 where
   pub number : r ≡ d .end .number
-  pub answer : given ≡ flatOf (answerOf d)
-  pub trace : Rehearsed d before after (answerOf d)
+  pub answer : given ≡ flatOf (answerFrom d)
+  pub trace : Rehearsed d before after (answerFrom d)
 
 -- what `aps2_check` answers, and what it leaves in the marks and in the place
 pub record Checked (wave : ℕ) (words before after given : List ℕ) (r : ℕ) : Type 0 where

@@ -7,7 +7,7 @@ use mathlib.Core.List.{List, [], _∷_}
 use lib.Dec.{eqb, leb}
 use lib.ListN.{getD, length}
 use Rattle.instruction.specs.Bits.{pick, allFit}
-use Rattle.instruction.specs.Table.{engineSelect, writeFlag, codeOf, valuesOf, bodyOf}
+use Rattle.instruction.specs.Table.{engineSelect, writeFlag, codeOf, lastCode, valuesOf, bodyOf}
 use Rattle.instruction.specs.Form.{filled}
 use Rattle.instruction.specs.declared.Instruction.{Instruction}
 use Rattle.instruction.specs.declared.Body.{Body}
@@ -33,11 +33,11 @@ paddedTo zero vs = []
 paddedTo (suc n) [] = 0 ∷ paddedTo n []
 paddedTo (suc n) (v ∷ vs) = v ∷ paddedTo n vs
 
-abbrev pub shownOf : Body → List ℕ
-shownOf b = pick (isOwn (codeOf b)) [] (valuesOf b)
+abbrev pub numbersOf : Body → List ℕ
+numbersOf b = pick (isOwn (codeOf b)) [] (valuesOf b)
 
 abbrev pub fieldsOf : Instruction → List ℕ
-fieldsOf i = codeOf (i .body) ∷ i .engine ∷ i .write ∷ paddedTo (fieldCount - 3) (shownOf (i .body))
+fieldsOf i = codeOf (i .body) ∷ i .engine ∷ i .write ∷ paddedTo (fieldCount - 3) (numbersOf (i .body))
 
 -- the fields of a reading; "A refused word leaves zeros"
 abbrev pub told : Reading → List ℕ
@@ -52,7 +52,7 @@ pub record Read (reading : Reading) (r : ℕ) (fs : List ℕ) : Type 0 where
 -- ---- writing
 
 abbrev pub isName : ℕ → Bool
-isName code = leb code 12 || eqb code (codeOf Noop)
+isName code = leb code lastCode || eqb code (codeOf Noop)
 
 -- so far, or a number past the first n is not zero; k numbers went before
 abbrev pub filledPast : Bool → ℕ → ℕ → List ℕ → Bool
@@ -65,15 +65,15 @@ valuesAsked fs = getD fs 3 0 ∷ getD fs 4 0 ∷ getD fs 5 0 ∷ getD fs 6 0 ∷
 abbrev pub asked : List ℕ → Instruction
 asked fs = record { engine = getD fs 1 0; write = getD fs 2 0; body = bodyOf (getD fs 0 0) (valuesAsked fs) }
 
-abbrev pub refusedBy : ℕ → Written
-refusedBy number = record { number = number; word = 0 }
+abbrev pub notWritten : ℕ → Written
+notWritten number = record { number = number; word = 0 }
 
 -- "a code that is none is 10; anything but zero past the fields its name has is 23, and 23 is tested first"
 unfoldable pub wishOf : List ℕ → Written
 wishOf fs =
-    pick (filledPast false (length (shownOf (asked fs .body))) 0 (valuesAsked fs)) (refusedBy 23)
+    pick (filledPast false (length (numbersOf (asked fs .body))) 0 (valuesAsked fs)) (notWritten 23)
     (pick (isName (getD fs 0 0)) (writtenOf (asked fs))
-    (pick (allFit (engineSelect ∷ writeFlag ∷ []) (getD fs 1 0 ∷ getD fs 2 0 ∷ [])) (refusedBy 10) (refusedBy 23)))
+    (pick (allFit (engineSelect ∷ writeFlag ∷ []) (getD fs 1 0 ∷ getD fs 2 0 ∷ [])) (notWritten 10) (notWritten 23)))
 
 -- what `aps2_write` answers
 pub record Wrote (written : Written) (r : ℕ) (ws : List ℕ) : Type 0 where

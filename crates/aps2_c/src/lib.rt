@@ -6,11 +6,12 @@ ghost use lib.ListN.{length};
 ghost use Rattle.instruction.specs.Table.{bodyOf};
 ghost use Rattle.reader.specs.Reading.{readingOf};
 ghost use Rattle.buffer.specs.Put.{Fits, Put};
-ghost use Rattle.jumps.specs.State.{fixedBy};
+ghost use Rattle.jumps.specs.State.{fixedIn};
 ghost use Rattle.rehearsal.specs.Run.{rehearse};
 ghost use Rattle.listing.specs.Listing.{listingOf, Listed};
 ghost use Rattle.aps2_c.specs.Answer.{conditionOf, flatWith, Ran, Checked};
-ghost use Rattle.aps2_c.specs.Fields.{shownOf, fieldsOf, Read, isName, filledPast, valuesAsked, wishOf, Wrote};
+ghost use Rattle.aps2_c.specs.Fields.{numbersOf, fieldsOf, Read, isName, filledPast, valuesAsked, wishOf, Wrote};
+use dispatch::Engines;
 use instruction::Body;
 use instruction::Comparison;
 use instruction::Ignored;
@@ -29,6 +30,7 @@ use reader::Reading;
 use reader::read;
 use rehearsal::Answer;
 use rehearsal::run;
+use sequence::Sequence;
 use verdict::Verdict;
 use verdict::check;
 use writer::Written;
@@ -40,7 +42,8 @@ pub struct Lent;
 impl Lent {
     pub const FIELDS: usize = 8;
 
-    pub const ANSWER: usize = 54;
+    // Ten numbers of the core and the end, two counts for each engine, and the two halves of each entry of the stack.
+    pub const ANSWER: usize = 10 + 2 * Engines::COUNT + 2 * (Sequence::STACK as usize);
 }
 
 fn fields_of(i: Instruction) -> [u64; Lent::FIELDS]
@@ -134,7 +137,7 @@ fn body_of(code: u64, fields: &[u64; Lent::FIELDS]) -> Body
 
 // How many of the table's fields a name has.
 fn shown_count(body: Body) -> u64
-    ensures { λ r. ⌜ r ≡ length (shownOf body) ⌝ }
+    ensures { λ r. ⌜ r ≡ length (numbersOf body) ⌝ }
 {
     match body {
         Body::Waveform(_) => 4,
@@ -264,8 +267,8 @@ pub extern "C" fn aps2_check(
 ) -> u64
     ensures { λ r. ⌜ Checked wave (now (words .entry)) (now (marks .entry)) (now (marks .exit)) (now (place .exit)) r ⌝ }
 {
-    let v = check(words, wave, marks);
-    *place = [v.place as u64];
+    let v = check(words, QuadSamples(wave), marks);
+    *place = [v.place.0];
     v.refusal.number
 }
 
@@ -279,7 +282,8 @@ pub extern "C" fn aps2_run(
     budget: u64,
     answer: &mut [u64; Lent::ANSWER],
 ) -> u64
-    ensures { λ r. ⌜ Ran (rehearse budget (fixedBy (now (words .entry)) (now (messages .entry)) (length (now (trace .entry))) (record { wave = record { 0 = wave }; triggers = triggers }))) (now (trace .entry)) (now (trace .exit)) (now (answer .exit)) r ⌝ }
+    ensures { λ r. ⌜ Ran (rehearse budget (fixedIn (words .entry) (messages .entry) (trace .entry) (record { wave = record { 0 = wave }; triggers = triggers })))
+        (now (trace .entry)) (now (trace .exit)) (now (answer .exit)) r ⌝ }
 {
     let a = run(words, QuadSamples(wave), messages, triggers, trace, budget);
     let state = a.state;

@@ -3,12 +3,13 @@
 use mathlib.Core.Path.{refl, sym, _∙_}
 use mathlib.Core.List.{List, []}
 use Prim.Native.Nat.{ℕ}
-use Rattle.jumps.specs.State.{Did, stateOf, Done}
+use Rattle.jumps.specs.State.{Did, stateOf}
+use Rattle.jumps.specs.Lent.{Done}
 use Rattle.jumps.specs.Jumps.{callOf, returnOf}
 use Rattle.jumps.specs.declared.Stepped.{Stepped}
 use Rattle.look.specs.Closed.{holds, fails}
 use Rattle.verdict.proofs.Unique as unique
-use Rattle.demands.specs.Answers.{One, OneEqual, OneRead, OneWrite, OneRun, OneCheck, OneList, OneStep, OneCall, OneReturn, OneMessage, OneDispatch, OneLook, OneWalk, OneSeen, OneJudge}
+use Rattle.demands.specs.Answers.{One, OneEqual, OneRead, OneWrite, OneRun, OneCheck, OneList, OneStep, OneCall, OneReturn, OneMessage, OneDispatch, OneLook, OneWalk, OneSeen}
 
 pub one-answer-equation : OneEqual
 one-answer-equation A d r r′ p q = p ∙ sym q
@@ -83,8 +84,3 @@ one-answer-seen limit words marks after l r r′ p q =
     let b = unique.one-back limit words after (p .marked .exact) l (p .returns) (p .depths) (q .returns) (q .depths) in
     let f = unique.one-fault limit words after (p .fault) (q .fault) in
     λ i. (b i, f i)
-
-pub one-answer-judge : OneJudge
-one-answer-judge limit words r r′ p q =
-    let o = unique.one-flow limit words p q in
-    λ i. (o .0 i, o .1 i)

@@ -25,7 +25,7 @@ use Rattle.jumps.specs.Jumps.{nexts, repeatOf, compares, acts, cleared, gotoOf,
 use Rattle.jumps.specs.declared.Condition.{Condition}
 use Rattle.jumps.specs.declared.Condition.the-variants.{Absent, Fails, Holds}
 use Rattle.jumps.specs.declared.State.{State}
-use Rattle.machine.specs.Step.{sent, sendOf, engineOf, anyAbove, syncOf, actOf, breaksGroup, stepOf}
+use Rattle.machine.specs.Step.{sent, sendOf, engineWordOf, anyAbove, syncOf, actOf, breaksGroup, stepOf}
 use Rattle.machine.proofs.Laws.{execute-acts, step-accepted}
 use Rattle.rehearsal.specs.Run.{thenDid, runOf, rehearse}
 use Rattle.rehearsal.proofs.Runs.{rehearse-runs, refused-none}
@@ -291,8 +291,8 @@ module _ (wave : ℕ) (words : List ℕ) (some : 0 < length words) (pass : (a : 
       idle : {b : Body} → st .instruction .body ≡ b → isEngine b ≡ false → s .core .held ≡ 0
       idle p n = none-held w st (ap isEngine p ∙ n)
 
-      engine-fine : isEngine (st .instruction .body) ≡ true → moveAt words (s .core .address .0) ≡ Other → Fine words (engineOf e s (st .instruction .write))
-      unfolding engineOf
+      engine-fine : isEngine (st .instruction .body) ≡ true → moveAt words (s .core .address .0) ≡ Other → Fine words (engineWordOf e s (st .instruction .write))
+      unfolding engineWordOf
       engine-fine p o =
           picks (Fine words) (eqb (st .instruction .write) 0)
           (λ z. goes (next-other w (s .core .held + 1) o (λ l. held-on w st p (eqb-true (st .instruction .write) 0 z))))

@@ -22,7 +22,7 @@ use Rattle.jumps.specs.State.{Fixed, Did, fresh, stop}
 use Rattle.jumps.specs.Jumps.{messageOf}
 use Rattle.jumps.specs.declared.State.{State}
 use Rattle.jumps.proofs.Laws.{message-none, message-taken}
-use Rattle.machine.specs.Step.{sendOf, engineOf, anyAbove, syncOf, actOf, breaksGroup, executeOf, stepOf}
+use Rattle.machine.specs.Step.{sendOf, engineWordOf, anyAbove, syncOf, actOf, breaksGroup, executeOf, stepOf}
 use Rattle.machine.proofs.Laws.{send-full, send-whole, engine-low, engine-high, sync-stops, sync-sends, execute-placed, execute-broken, execute-acts, step-past, step-refused, step-accepted}
 use Rattle.rehearsal.specs.Run.{onto, thenDid, runOf, inputRefused, rehearse}
 use Rattle.rehearsal.proofs.Runs.{rehearse-refused, rehearse-runs, refused-none, input-good}
@@ -81,10 +81,10 @@ module _ (e e′ : Fixed) (x : Extends e e′) (s : State) where
           sync-sends e′ s (none-above (s .waits) (e .setting .triggers) (e′ .setting .triggers) (x .triggers) t)
           ∙ send-same (ap (λ (y : Did). y .end .number) (sym p) ∙ z) ∙ sym p
 
-  engine-same : (w : ℕ) → Same (engineOf e s w) (engineOf e′ s w)
+  engine-same : (w : ℕ) → Same (engineWordOf e s w) (engineWordOf e′ s w)
   engine-same w z = by (eqb w 0) refl
     where
-      by : (b : Bool) → eqb w 0 ≡ b → engineOf e′ s w ≡ engineOf e s w
+      by : (b : Bool) → eqb w 0 ≡ b → engineWordOf e′ s w ≡ engineWordOf e s w
       by true t = engine-low e′ s w (eqb-true w 0 t) ∙ sym (engine-low e s w (eqb-true w 0 t))
       by false t =
           let p = engine-high e s w (eqb-false w 0 t) in

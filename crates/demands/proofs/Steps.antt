@@ -26,7 +26,7 @@ use Rattle.jumps.specs.State.{Fixed, Did, stateOf, withCore, refusedBy, stop, m
 use Rattle.jumps.specs.Jumps.{repeatOf, acts, gotoOf, callOf, returnOf, messageOf, holdOf}
 use Rattle.jumps.specs.declared.Core.{Core}
 use Rattle.jumps.specs.declared.State.{State}
-use Rattle.machine.specs.Step.{groupOf, sent, sendOf, engineOf, anyAbove, syncOf, actOf, breaksGroup, executeOf, withReading, stepOf}
+use Rattle.machine.specs.Step.{groupOf, sent, sendOf, engineWordOf, anyAbove, syncOf, actOf, breaksGroup, executeOf, withReading, stepOf}
 use Rattle.demands.specs.Run.{isDispatched, Reads, StopsStill}
 
 -- ---- a refused word has a number
@@ -136,8 +136,8 @@ module _ (e : Fixed) (s : State) where
     unfolding syncOf
     sync-outcome = picks (Outcome e s) (anyAbove (e .setting .triggers) (s .waits)) (λ _. stop-at 41 (λ z. omega (arith, z))) (λ _. send-outcome)
 
-    engine-outcome : (w : ℕ) → Outcome e s (engineOf e s w)
-    unfolding engineOf
+    engine-outcome : (w : ℕ) → Outcome e s (engineWordOf e s w)
+    unfolding engineWordOf
     engine-outcome w = picks (Outcome e s) (eqb w 0) (λ _. holds g) (λ _. send-outcome)
 
   -- what 22 lets through: no word but an engine word while a group is held

@@ -21,7 +21,7 @@ use Rattle.jumps.specs.State.{Fixed, fixedBy, Did, freshCore, fresh, withCount,
 use Rattle.jumps.specs.Jumps.{callOf, returnOf, messageOf}
 use Rattle.jumps.specs.declared.Setting.{Setting}
 use Rattle.jumps.specs.declared.State.{State}
-use Rattle.machine.specs.Step.{sendOf, engineOf, syncOf, actOf, executeOf, withReading, stepOf}
+use Rattle.machine.specs.Step.{sendOf, engineWordOf, syncOf, actOf, executeOf, withReading, stepOf}
 use Rattle.rehearsal.specs.Run.{runOf, inputRefused, rehearse}
 use Rattle.rehearsal.proofs.Runs.{rehearse-refused, rehearse-runs}
 use Rattle.flow.specs.Walk.{Reached, start, compare, enter, passed, other, goto, past, full, empty}
@@ -100,7 +100,7 @@ _also_ : {A B : Type 0} → A → B → A × B
 a also b = (a, b)
 
 pub worked-sequences : WorkedSequences table
-unfolding wordRefusal standsRefused leftOpen closes isEngineWord isHigh readingOf formIn hasUnnamed notItsOp formOf spelledBy placingOf lengthsRefused inputRefused rehearse runOf stepOf withReading executeOf actOf engineOf sendOf syncOf messageOf callOf returnOf
+unfolding wordRefusal standsRefused leftOpen closes isEngineWord isHigh readingOf formIn hasUnnamed notItsOp formOf spelledBy placingOf lengthsRefused inputRefused rehearse runOf stepOf withReading executeOf actOf engineWordOf sendOf syncOf messageOf callOf returnOf
 worked-sequences =
     (by-flow 5 fourWords 0 0 refl refl p1 also tt)
     also (by-word 4 fourWords (verdict (numbered 20) 2) refl (check.first {a = 2} (omega arith) (pass 2 4 fourWords refl) (λ z. omega (arith, z))) (λ z. omega (arith, z)) also tt)

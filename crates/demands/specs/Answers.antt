@@ -10,7 +10,8 @@ use Rattle.reader.specs.declared.Reading.{Reading}
 use Rattle.writer.specs.Writing.{writtenOf}
 use Rattle.writer.specs.declared.Written.{Written}
 use Rattle.dispatch.specs.Trace.{Dispatched}
-use Rattle.jumps.specs.State.{Fixed, stateOf, Done, Traced}
+use Rattle.jumps.specs.State.{Fixed, stateOf}
+use Rattle.jumps.specs.Lent.{Done, Traced}
 use Rattle.jumps.specs.Jumps.{callOf, returnOf, messageOf}
 use Rattle.jumps.specs.declared.Core.{Core}
 use Rattle.jumps.specs.declared.State.{State}
@@ -19,9 +20,9 @@ use Rattle.machine.specs.Step.{stepOf}
 use Rattle.rehearsal.specs.Run.{rehearse, Rehearsed}
 use Rattle.rehearsal.specs.declared.Answer.{Answer}
 use Rattle.look.specs.Closed.{Tells}
-use Rattle.walk.specs.Marks.{Marked, Settled}
+use Rattle.walk.specs.Marks.{Marked}
+use Rattle.walk.specs.Loops.{Settled}
 use Rattle.flow.specs.Walk.{deepest}
-use Rattle.verdict.specs.Flow.{FlowIs}
 use Rattle.verdict.specs.Check.{CheckIs}
 use Rattle.verdict.specs.declared.Verdict.{Verdict}
 use Rattle.listing.specs.Listing.{Listed}
@@ -87,7 +88,3 @@ OneWalk = (limit : ℕ) (words marks : List ℕ) → One (List ℕ) (λ r. Marke
 -- what the walk has seen, up to the depths that a mark has bits for
 abbrev pub OneSeen : Type 0
 OneSeen = (limit : ℕ) (words marks after : List ℕ) → limit ≤ deepest → One (ℕ × ℕ) (λ r. Settled limit words marks after (r .0) (r .1))
-
--- the verdict on flow
-abbrev pub OneJudge : Type 0
-OneJudge = (limit : ℕ) (words : List ℕ) → One (ℕ × ℕ) (λ r. FlowIs limit words (r .0) (r .1))

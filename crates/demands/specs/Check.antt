@@ -10,20 +10,20 @@ use Rattle.jumps.specs.State.{Fixed}
 use Rattle.rehearsal.specs.Run.{rehearse}
 use Rattle.flow.specs.Walk.{Fault}
 use Rattle.verdict.specs.Words.{Passes}
-use Rattle.verdict.specs.Check.{verdict, inputRefused, CheckIs}
+use Rattle.verdict.specs.Check.{verdict, checkInputRefused, CheckIs}
 use Rattle.verdict.specs.declared.Verdict.{Verdict}
 
 -- ---- refused exactly
 
 -- "Where input, words and groups are in order"
 pub record InOrder (wave : ℕ) (words marks : List ℕ) : Type 0 where
-  pub input : inputRefused (length words) wave (length marks) ≡ 0
+  pub input : checkInputRefused (length words) wave (length marks) ≡ 0
   pub pass : (a : ℕ) → a < length words → Passes wave words a
 
 -- the walk comes to this fault, and to none at a lower address
 pub record LowestFault (words : List ℕ) (v : Verdict) : Type 0 where
-  pub fault : Fault stackDepth words (v .refusal .number) (v .place)
-  pub lowest : (number a : ℕ) → Fault stackDepth words number a → v .place ≤ a
+  pub fault : Fault stackDepth words (v .refusal .number) (v .place .0)
+  pub lowest : (number a : ℕ) → Fault stackDepth words number a → v .place .0 ≤ a
 
 -- "refused for its flow exactly when the walk .. comes to a fault, and accepted otherwise"
 pub record Exactly (words : List ℕ) (v : Verdict) : Type 0 where

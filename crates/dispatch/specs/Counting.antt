@@ -13,18 +13,18 @@ use Rattle.dispatch.specs.declared.Share.{Share}
 
 -- what an engine word adds to its engine's counts, and what any instruction adds
 abbrev pub shareOf : ℕ → Bool → Bool → ℕ → Share
-shareOf engine awaits isPlay count = record { engine = engine; waits = pick awaits 1 0; plays = pick isPlay count 0; all = false }
+shareOf engine awaits isPlay count = record { engine = engine; waits = pick awaits 1 0; plays = record { 0 = pick isPlay count 0 }; all = false }
 
 abbrev pub shareIn : Instruction → Share
-shareIn i = record { engine = engineOf i; waits = waitsFor (i .body); plays = playsFor (i .body); all = eqb (codeOf (i .body)) (codeOf Wait) }
+shareIn i = record { engine = engineOf i; waits = waitsFor (i .body); plays = record { 0 = playsFor (i .body) }; all = eqb (codeOf (i .body)) (codeOf Wait) }
 
 -- no word adds more than this
 pub record Small (share : Share) : Type 0 where
   pub engine : share .engine < engineCount
   pub waits : share .waits ≤ 1
-  pub plays : share .plays ≤ 2 ^ 32
+  pub plays : share .plays .0 ≤ 2 ^ 32
 
 -- what one word adds is counted
 pub record CountedOne (share : Share) (ws ts ws′ ts′ : List ℕ) : Type 0 where
   pub waits : ws′ ≡ pick (share .all) (plusOne ws) (addTo ws (share .engine) (share .waits))
-  pub totals : ts′ ≡ addTo ts (share .engine) (share .plays)
+  pub totals : ts′ ≡ addTo ts (share .engine) (share .plays .0)

@@ -7,7 +7,7 @@ use lib.Dec.{eqb}
 use lib.ListN.{getD, set, length}
 use Rattle.instruction.specs.Bits.{pick}
 use Rattle.instruction.specs.Table.{codeOf}
-use Rattle.instruction.specs.Form.{plays, modulates}
+use Rattle.instruction.specs.Form.{plays, awaitsTrigger, modulates, modulatorAwaitsTrigger}
 use Rattle.instruction.specs.Word.{spelledBy}
 use Rattle.instruction.specs.declared.Instruction.{Instruction}
 use Rattle.instruction.specs.declared.Body.{Body}
@@ -23,7 +23,7 @@ engineOf i = onEngine (λ f. 0) (λ f. 1 + i .engine) (λ f. 5) 0 (i .body)
 
 -- H6: "each engine counts the trigger waits sent to it"
 abbrev pub waitsFor : Body → ℕ
-waitsFor = onEngine (λ f. pick (eqb (f .op) 1) 1 0) (λ f. pick (eqb (f .op) 1) 1 0) (λ f. pick (eqb (f .op) 2) 1 0) 0
+waitsFor = onEngine (λ f. pick (awaitsTrigger (f .op)) 1 0) (λ f. pick (awaitsTrigger (f .op)) 1 0) (λ f. pick (modulatorAwaitsTrigger (f .op)) 1 0) 0
 
 -- H7: "play and modulate add count to their engine's quad-sample total on dispatch"; "Others add nothing"
 abbrev pub playsFor : Body → ℕ

@@ -15,6 +15,7 @@ use instruction::Body;
 use instruction::EngineOp;
 use instruction::Instruction;
 use instruction::ModulatorFields;
+use instruction::QuadSamples;
 
 // The engines that count: waveform, markers 0 to 3, modulator.
 pub struct Engines;
@@ -33,7 +34,7 @@ impl Engines {
 pub struct Share {
     pub engine: u64,
     pub waits: u64,
-    pub plays: u64,
+    pub plays: QuadSamples,
     pub all: bool,
 }
 
@@ -44,35 +45,35 @@ impl Share {
         if test { number } else { 0 }
     }
 
-    fn of_engine(engine: u64, awaits: bool, plays: bool, count: u64) -> Share
-        ensures { λ r. ⌜ r ≡ shareOf engine awaits plays count ⌝ }
+    fn of_engine(engine: u64, awaits: bool, plays: bool, count: QuadSamples) -> Share
+        ensures { λ r. ⌜ r ≡ shareOf engine awaits plays (count .0) ⌝ }
     {
         Share {
             engine,
             waits: Share::given(awaits, 1),
-            plays: Share::given(plays, count),
+            plays: QuadSamples(Share::given(plays, count.0)),
             all: false,
         }
     }
 
     fn none() -> Share
-        ensures { λ r. ⌜ r ≡ record { engine = 0; waits = 0; plays = 0; all = false } ⌝ }
+        ensures { λ r. ⌜ r ≡ record { engine = 0; waits = 0; plays = record { 0 = 0 }; all = false } ⌝ }
     {
         Share {
             engine: 0,
             waits: 0,
-            plays: 0,
+            plays: QuadSamples(0),
             all: false,
         }
     }
 
     fn for_all() -> Share
-        ensures { λ r. ⌜ r ≡ record { engine = 0; waits = 0; plays = 0; all = true } ⌝ }
+        ensures { λ r. ⌜ r ≡ record { engine = 0; waits = 0; plays = record { 0 = 0 }; all = true } ⌝ }
     {
         Share {
             engine: 0,
             waits: 0,
-            plays: 0,
+            plays: QuadSamples(0),
             all: true,
         }
     }
@@ -88,13 +89,13 @@ impl Share {
                 Engines::WAVEFORM,
                 f.op == EngineOp::WAIT_TRIGGER,
                 f.op == EngineOp::PLAY,
-                f.count.0,
+                f.count,
             ),
             Body::Marker(f) => Share::of_engine(
                 marker,
                 f.op == EngineOp::WAIT_TRIGGER,
                 f.op == EngineOp::PLAY,
-                f.count.0,
+                f.count,
             ),
             Body::Wait => Share::for_all(),
             Body::LoadRepeat(_) => Share::none(),
@@ -108,7 +109,7 @@ impl Share {
                 Engines::MODULATOR,
                 f.op == ModulatorFields::WAIT_TRIGGER,
                 f.op == ModulatorFields::MODULATE,
-                f.payload,
+                QuadSamples(f.payload),
             ),
             Body::LoadCmp(_) => Share::none(),
             Body::Prefetch(_) => Share::none(),
@@ -141,7 +142,7 @@ fn count(share: Share, waits: &mut [u64; Engines::COUNT], totals: &mut [u64; Eng
     ensures { λ _. ⌜ CountedOne share (now (waits .entry)) (now (totals .entry)) (now (waits .exit)) (now (totals .exit)) ⌝ }
 {
     let engine = share.engine as usize;
-    totals[engine] = totals[engine] + share.plays;
+    totals[engine] = totals[engine] + share.plays.0;
     if share.all {
         plus_one(waits);
         return;

@@ -54,7 +54,7 @@ toOf (Loop t) = t .0
 pub record Follows (lim : ℕ) (o : Move) (m r : ℕ) (f : Moves) : Type 0 where
   pub next : f .next ≡ nextOf o m r
   pub jump : f .jump ≡ jumpOf lim o m
-  pub to : f .to ≡ toOf o
+  pub to : f .to .0 ≡ toOf o
 
 -- an op code below REPEAT's or above RETURN's: the word goes on to the next address
 abbrev pub goesOn : ℕ → Bool

@@ -87,7 +87,7 @@ impl Mark {
 pub struct Moves {
     pub next: u64,
     pub jump: u64,
-    pub to: u64,
+    pub to: WordAddress,
 }
 
 impl Moves {
@@ -100,32 +100,32 @@ impl Moves {
             Move::Other => Moves {
                 next: m,
                 jump: 0,
-                to: 0,
+                to: WordAddress(0),
             },
             Move::Compare => Moves {
                 next: Mark::bare(m) * 2,
                 jump: 0,
-                to: 0,
+                to: WordAddress(0),
             },
             Move::Jump(t) => Moves {
                 next: Mark::held(m),
                 jump: Mark::bare(m),
-                to: t.0,
+                to: t,
             },
             Move::Enter(t) => Moves {
                 next: Mark::held(m) | (Mark::bare(m) & (back / 4)),
                 jump: Mark::deeper(m, limit),
-                to: t.0,
+                to: t,
             },
             Move::Leave => Moves {
                 next: Mark::held(m),
                 jump: 0,
-                to: 0,
+                to: WordAddress(0),
             },
             Move::Loop(t) => Moves {
                 next: m,
                 jump: m,
-                to: t.0,
+                to: t,
             },
         }
     }

@@ -4,6 +4,7 @@ use Prim.Native.Nat.{ℕ, _%_, _^_}
 use mathlib.Core.Bool.{Bool, false, not, _||_, _&&_}
 use lib.Dec.{ltb, eqb}
 use Rattle.instruction.specs.Bits.{_gives_else_}
+use Rattle.instruction.specs.Table.{waitOp, syncOp}
 use Rattle.instruction.specs.declared.WaveformFields.{WaveformFields}
 use Rattle.instruction.specs.declared.MarkerFields.{MarkerFields}
 use Rattle.instruction.specs.declared.ModulatorFields.{ModulatorFields}
@@ -23,8 +24,11 @@ numbered number = record { number = number }
 abbrev pub plays : ℕ → Bool
 plays op = eqb op 0
 
+abbrev pub awaitsTrigger : ℕ → Bool
+awaitsTrigger op = eqb op waitOp
+
 abbrev pub awaits : ℕ → Bool
-awaits op = eqb op 1 || eqb op 2
+awaits op = awaitsTrigger op || eqb op syncOp
 
 abbrev pub prefetches : ℕ → Bool
 prefetches op = eqb op 3
@@ -36,8 +40,11 @@ modulates op = eqb op 0
 abbrev pub resetsPhase : ℕ → Bool
 resetsPhase op = eqb op 1
 
+abbrev pub modulatorAwaitsTrigger : ℕ → Bool
+modulatorAwaitsTrigger op = eqb op 2
+
 abbrev pub modulatorAwaits : ℕ → Bool
-modulatorAwaits op = eqb op 2 || eqb op 4
+modulatorAwaits op = modulatorAwaitsTrigger op || eqb op 4
 
 abbrev pub setsPhase : ℕ → Bool
 setsPhase op = eqb op 3 || eqb op 5 || eqb op 7
@@ -73,7 +80,7 @@ unflagged write = breaks never never (eqb write 0) never never
 
 -- "14 MARKER op 3, MODULATOR op 6"
 abbrev pub noSuchOp : Body → Bool
-noSuchOp = breaks never (λ f. eqb (f .op) 3) false (λ f. eqb (f .op) 6) never
+noSuchOp = breaks never (λ f. prefetches (f .op)) false (λ f. eqb (f .op) 6) never
 
 -- "15 a named field that this engine op has no use for is not zero: all payload fields but op for the waits;
 -- T/A and count for waveform prefetch; payload for phase reset"
@@ -109,10 +116,13 @@ askew =
     never (λ a. filled (a .0 % 128))
 
 -- "18 NCO select not 1 or 2 for modulate, not 1 to 3 for ops 1, 3, 5, 7"
+abbrev pub oneNco : ℕ → Bool
+oneNco nco = eqb nco 1 || eqb nco 2
+
 abbrev pub noSuchNco : ModulatorFields → Bool
 noSuchNco f =
-    (modulates (f .op) && not (eqb (f .nco) 1 || eqb (f .nco) 2))
-    || ((resetsPhase (f .op) || setsPhase (f .op)) && not (eqb (f .nco) 1 || eqb (f .nco) 2 || eqb (f .nco) 3))
+    (modulates (f .op) && not (oneNco (f .nco)))
+    || ((resetsPhase (f .op) || setsPhase (f .op)) && not (oneNco (f .nco) || eqb (f .nco) 3))
 
 abbrev pub wrongNco : Body → Bool
 wrongNco = breaks never never false noSuchNco never

@@ -97,9 +97,13 @@ noopWord = 2 ^ 64 - 1
 abbrev pub isNoop : Body → Bool
 isNoop b = eqb (codeOf b) (codeOf Noop)
 
+-- the last op code; NOOP is none
+abbrev pub lastCode : ℕ
+lastCode = codeOf (Prefetch (record { 0 = 0 }))
+
 -- "RETURN, LOAD_CMP: ignored, any payload"
 abbrev pub isIgnored : ℕ → Bool
-isIgnored code = eqb code 8 || eqb code 11
+isIgnored code = eqb code (codeOf (Return (record { 0 = 0 }))) || eqb code (codeOf (LoadCmp (record { 0 = 0 })))
 
 -- "47-46 op: 1 for WAIT, 2 for SYNC"
 abbrev pub waitOp : ℕ

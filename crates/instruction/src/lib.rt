@@ -1,10 +1,11 @@
 // The instruction: its units, its fields with their places and widths, what a word spells, and the form numbers that it alone decides.
 // Reader and writer judge words and wishes by what stands here, so that both mean the same.
 ghost use mathlib.Core.Path.{_≡_};
+ghost use Prim.Native.Nat.{_<_};
 ghost use Rattle.instruction.specs.Bits.{_gives_else_, held, heldIn};
 ghost use Rattle.instruction.specs.Table.{engineSelect, writeFlag, engineOp, target, repeatCount, payloadOf, codeOf, waveformOf, markerOf, comparisonOf, modulatorOf, bodyOf};
 ghost use Rattle.instruction.specs.Form.{short, bodyForm, formOf};
-ghost use Rattle.instruction.specs.Word.{codeIn, valuesIn, spelledBy};
+ghost use Rattle.instruction.specs.Word.{codeIn, valuesIn, spelledBy, byteSpan};
 
 // ---- Units: samples, quad-samples and word addresses are counted apart.
 
@@ -116,7 +117,7 @@ impl WaveformFields {
     pub const ADDRESS: Field = Field { low: 0, width: 24 };
 
     pub fn spelled_by(word: u64) -> WaveformFields
-        ensures { λ r. ⌜ r ≡ waveformOf (heldIn word (payloadOf 0)) ⌝ }
+        ensures { λ r. ⌜ r ≡ waveformOf (heldIn word (payloadOf (codeOf (Body.Waveform r)))) ⌝ }
     {
         WaveformFields {
             op: (word >> EngineOp::PLACE.low) % (1 << EngineOp::PLACE.width),
@@ -169,7 +170,7 @@ impl MarkerFields {
     pub const COUNT: Field = Field { low: 0, width: 32 };
 
     pub fn spelled_by(word: u64) -> MarkerFields
-        ensures { λ r. ⌜ r ≡ markerOf (heldIn word (payloadOf 1)) ⌝ }
+        ensures { λ r. ⌜ r ≡ markerOf (heldIn word (payloadOf (codeOf (Body.Marker r)))) ⌝ }
     {
         MarkerFields {
             op: (word >> EngineOp::PLACE.low) % (1 << EngineOp::PLACE.width),
@@ -233,7 +234,7 @@ impl Comparison {
     pub const ABOVE: u64 = 2;
 
     pub fn spelled_by(word: u64) -> Comparison
-        ensures { λ r. ⌜ r ≡ comparisonOf (heldIn word (payloadOf 5)) ⌝ }
+        ensures { λ r. ⌜ r ≡ comparisonOf (heldIn word (payloadOf (codeOf (Body.Cmp r)))) ⌝ }
     {
         Comparison {
             code: (word >> Comparison::CODE.low) % (1 << Comparison::CODE.width),
@@ -278,11 +279,17 @@ impl ModulatorFields {
 
     pub const UPDATE_FRAME: u64 = 7;
 
+    pub const FIRST_NCO: u64 = 1;
+
+    pub const SECOND_NCO: u64 = 2;
+
+    pub const BOTH_NCOS: u64 = 3;
+
     // Increment, offset and frame are UQ2.28.
     pub const PHASES: u64 = 1 << 30;
 
     pub fn spelled_by(word: u64) -> ModulatorFields
-        ensures { λ r. ⌜ r ≡ modulatorOf (heldIn word (payloadOf 10)) ⌝ }
+        ensures { λ r. ⌜ r ≡ modulatorOf (heldIn word (payloadOf (codeOf (Body.Modulator r)))) ⌝ }
     {
         ModulatorFields {
             op: (word >> ModulatorFields::OP.low) % (1 << ModulatorFields::OP.width),
@@ -303,7 +310,7 @@ impl ModulatorFields {
         let sets = (op == ModulatorFields::SET_INCREMENT)
             | (op == ModulatorFields::SET_OFFSET)
             | (op == ModulatorFields::UPDATE_FRAME);
-        let one_or_two = (nco == 1) | (nco == 2);
+        let is_one = (nco == ModulatorFields::FIRST_NCO) | (nco == ModulatorFields::SECOND_NCO);
         if op == ModulatorFields::RESERVED {
             return Refusal::NO_SUCH_OP;
         }
@@ -313,7 +320,7 @@ impl ModulatorFields {
         if modulates & (payload < QuadSamples::SHORTEST) {
             return Refusal::TOO_SHORT;
         }
-        if modulates & !one_or_two | (resets | sets) & !(one_or_two | (nco == 3)) {
+        if modulates & !is_one | (resets | sets) & !(is_one | (nco == ModulatorFields::BOTH_NCOS)) {
             return Refusal::WRONG_NCO;
         }
         if sets & !(payload < ModulatorFields::PHASES) {
@@ -379,6 +386,13 @@ pub struct Instruction {
 }
 
 impl Instruction {
+    // A byte as a number.
+    pub fn wide(b: u8) -> u64
+        ensures { λ r. ⌜ (r ≡ b) × (r < byteSpan) ⌝ }
+    {
+        b as u64
+    }
+
     // H2: the word of 64 ones.
     pub const NOOP: u64 = 0xFFFF_FFFF_FFFF_FFFF;
 

@@ -8,7 +8,8 @@ use borrow.Author.Tests.{lt-ltb, le-ltb}
 use lib.Dec.{ltb}
 use lib.ListN.{length, getD}
 use Rattle.dispatch.proofs.Counts.{picks}
-use Rattle.jumps.specs.State.{Did, stateOf, withMessage, withCore, stop, moves, stopped, Done}
+use Rattle.jumps.specs.State.{Did, stateOf, withMessage, withCore, stop, moves, stopped}
+use Rattle.jumps.specs.Lent.{Done}
 use Rattle.jumps.specs.Jumps.{nexts, acts, cleared, pushed, callOf, popped, returnOf, messageOf}
 use Rattle.jumps.specs.declared.Core.{Core}
 use Rattle.jumps.specs.declared.State.{State}

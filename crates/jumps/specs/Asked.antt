@@ -8,10 +8,10 @@ pub record Counts (c : Core) : Type 0 where
   pub address : c .address .0 < 2 ^ 63
   pub steps : c .steps < budgetLimit
 
-pub record Holds (c : Core) : Type 0 where
+pub record CanHold (c : Core) : Type 0 where
   pub counts : Counts c
   pub held : c .held < groupSize
 
-pub record Returns (c : Core) : Type 0 where
+pub record CanReturn (c : Core) : Type 0 where
   pub counts : Counts c
   pub depth : c .depth ≤ stackDepth

@@ -1,3 +1,4 @@
 pub mod State
+pub mod Lent
 pub mod Jumps
 pub mod Asked

@@ -3,12 +3,12 @@
 use Prim.Native.Nat.{ℕ}
 use mathlib.Core.List.{List, []}
 use mathlib.Core.Path.{_≡_}
-use lib.ListN.{replicate}
+use lib.ListN.{length, replicate}
+use denote.Ref.{RefT, now}
 use Rattle.instruction.specs.Form.{numbered}
 use Rattle.instruction.specs.declared.Refusal.{Refusal}
 use Rattle.sequence.specs.Bounds.{stackDepth}
 use Rattle.dispatch.specs.Engines.{engineCount}
-use Rattle.buffer.specs.Put.{put}
 use Rattle.jumps.specs.declared.Condition.{Condition}
 use Rattle.jumps.specs.declared.Condition.the-variants.{Absent}
 use Rattle.jumps.specs.declared.Core.{Core}
@@ -25,6 +25,10 @@ pub record Fixed : Type 0 where
 
 abbrev pub fixedBy : List ℕ → List ℕ → ℕ → Setting → Fixed
 fixedBy words messages room setting = record { words = words; messages = messages; room = room; setting = setting }
+
+-- the same of words, messages and a trace that are lent, behind their references
+abbrev pub fixedIn : RefT (List ℕ) → RefT (List ℕ) → RefT (List ℕ) → Setting → Fixed
+fixedIn words messages trace setting = fixedBy (now words) (now messages) (length (now trace)) setting
 
 abbrev pub stateOf : Core → List ℕ → List ℕ → List ℕ → List ℕ → State
 stateOf core returns counters waits totals = record { core = core; returns = returns; counters = counters; waits = waits; totals = totals }
@@ -79,15 +83,3 @@ moves s = record { end = numbered 0; state = s; out = [] }
 -- the answer of a function that stops, or moves with the core alone
 abbrev pub stopped : ℕ → Core → Stepped
 stopped n c = record { end = numbered n; core = c }
-
--- ---- what functions promise
-
--- what a function answers that did d, and what it leaves in the lent arrays
-pub record Done (d : Did) (r : Stepped) (returns counters waits totals : List ℕ) : Type 0 where
-  pub end : r .end ≡ d .end
-  pub state : stateOf (r .core) returns counters waits totals ≡ d .state
-
--- and in the trace, of which the first k words are kept
-pub record Traced (d : Did) (k : ℕ) (before after : List ℕ) (r : Stepped) (returns counters waits totals : List ℕ) : Type 0 where
-  pub done : Done d r returns counters waits totals
-  pub trace : after ≡ put before k (d .out)

@@ -5,11 +5,13 @@ ghost use mathlib.Core.List.{List};
 ghost use Prim.Native.Nat.{ℕ, _<_};
 ghost use Rattle.instruction.specs.Bits.{pick};
 ghost use Rattle.sequence.specs.Bounds.{budgetLimit};
-ghost use Rattle.jumps.specs.State.{stateOf, freshCore, withMessage, withSent, withCounter, withCondition, stopped, Done};
+ghost use Rattle.jumps.specs.State.{stateOf, freshCore, withMessage, withSent, withCounter, withCondition, stopped};
+ghost use Rattle.jumps.specs.Lent.{Done};
 ghost use Rattle.jumps.specs.Jumps.{goes, nexts, repeatOf, compares, compareOf, acts, gotoOf, callOf, returnOf, messageOf, holdOf};
-ghost use Rattle.jumps.specs.Asked.{Counts, Holds, Returns};
+ghost use Rattle.jumps.specs.Asked.{Counts, CanHold, CanReturn};
 use dispatch::Engines;
 use instruction::Comparison;
+use instruction::Instruction;
 use instruction::QuadSamples;
 use instruction::Refusal;
 use instruction::WordAddress;
@@ -187,7 +189,7 @@ impl Core {
     }
 
     pub fn hold(mut self) -> Core
-        requires { ⌜ Holds self ⌝ }
+        requires { ⌜ CanHold self ⌝ }
         ensures { λ r. ⌜ r ≡ holdOf self ⌝ }
     {
         self.held = self.held + 1;
@@ -270,7 +272,7 @@ pub fn ret(
     counters: &mut [u64; Sequence::STACK as usize],
     s: Core,
 ) -> Stepped
-    requires { ⌜ Returns s ⌝ }
+    requires { ⌜ CanReturn s ⌝ }
     ensures { λ r. ⌜ ((ws ts : List ℕ) → Done (returnOf (stateOf s (now (returns .entry)) (now (counters .entry)) ws ts)) r (now (returns .exit)) (now (counters .exit)) ws ts) ⌝ }
 {
     let condition = s.condition;
@@ -302,11 +304,5 @@ pub fn message(messages: &[u8], s: Core) -> Stepped
     if messages.len() <= next {
         return Stepped::stop(Stepped::MESSAGE_AWAITED, s);
     }
-    Stepped::moves(s.takes(wide(messages[next]), used + 1))
-}
-
-fn wide(x: u8) -> u64
-    ensures { λ r. ⌜ r ≡ x ⌝ }
-{
-    x as u64
+    Stepped::moves(s.takes(Instruction::wide(messages[next]), used + 1))
 }

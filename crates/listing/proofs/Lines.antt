@@ -19,7 +19,8 @@ use Rattle.buffer.specs.Put.{put, Fits, Put}
 use Rattle.buffer.proofs.Laws.{put-none, length-put, fits-first, fits-next, puts-both, front-put}
 use Rattle.page.specs.Text.{number, letters, decimal, tab, restText, lineText, textOf}
 use Rattle.instruction.specs.Word.{wordBytes}
-use Rattle.listing.specs.Listing.{wordAt, nameOf, shownOf, entriesOf, entriesIn, linesFrom, listedWords, listingOf, Listed, heardSize, heardOf, HeardSame}
+use Rattle.names.specs.Names.{nameOf}
+use Rattle.listing.specs.Listing.{wordAt, shownOf, entriesOf, entriesIn, linesFrom, listedWords, listingOf, Listed, heardSize, heardOf, HeardSame}
 
 module _ (i : Instruction) where
   pub noop-line : codeOf (i .body) ≡ codeOf Noop → restText (entriesOf i) ≡ (tab ∷ letters (nameOf (i .body))) ++ restText []

@@ -25,7 +25,8 @@ use Rattle.reader.proofs.Laws.{reads-noop, reads, refuses}
 use Rattle.reader.proofs.Masks.{none-below, code-small}
 use Rattle.page.specs.Text.{number, letters, decimal, restText, lineText, textOf}
 use Rattle.instruction.specs.Word.{wordBytes}
-use Rattle.listing.specs.Listing.{nameOf, showsNone, shownOf, entriesOf, entriesIn, wordAt, linesFrom, listedWords, listingOf, lineSize, pageSize}
+use Rattle.names.specs.Names.{nameOf}
+use Rattle.listing.specs.Listing.{showsNone, shownOf, entriesOf, entriesIn, wordAt, linesFrom, listedWords, listingOf, lineSize, pageSize}
 use Rattle.page.proofs.Decimal.{decimal-short}
 use Rattle.listing.proofs.Lines.{noop-line, other-line, listing-8, listing-9, listing-lines}
 

@@ -1,7 +1,6 @@
 -- The listing of raw words. Document 01, "The listing program".
 -- "It reads raw words .., eight bytes each, most significant first, at most 2,048."
 use Prim.Native.Nat.{ℕ, zero, suc, _+_, _-_, _*_, _/_, _%_, _<_}
-use Prim.Native.String.{String}
 use mathlib.Core.Path.{_≡_}
 use mathlib.Core.Bool.{Bool, not, _||_}
 use mathlib.Core.List.{List, [], _∷_, _++_, map}
@@ -11,11 +10,12 @@ use Rattle.instruction.specs.Bits.{pick}
 use Rattle.instruction.specs.Table.{codeOf, isNoop, isIgnored, valuesOf}
 use Rattle.instruction.specs.declared.Instruction.{Instruction}
 use Rattle.instruction.specs.declared.Body.{Body}
-use Rattle.instruction.specs.declared.Body.the-variants.{Waveform, Marker, Wait, LoadRepeat, Repeat, Cmp, Goto, Call, Return, Sync, Modulator, LoadCmp, Prefetch, Noop}
+use Rattle.instruction.specs.declared.Body.the-variants.{Wait, Sync}
 use Rattle.instruction.specs.Word.{wordBytes, byteSpan}
 use Rattle.reader.specs.Reading.{readingOf}
 use Rattle.reader.specs.declared.Reading.{Reading}
 use Rattle.reader.specs.declared.Reading.the-variants.{Accepted, Refused}
+use Rattle.names.specs.Names.{nameOf}
 use Rattle.page.specs.Text.{Entry, name, number, Line, textOf}
 
 -- ---- words
@@ -29,22 +29,6 @@ abbrev pub wordAt : List ℕ → ℕ → ℕ
 wordAt bytes a = bigEndian bytes (a * wordBytes) wordBytes
 
 -- ---- lines
-
-abbrev pub nameOf : Body → String
-nameOf (Waveform f) = "WAVEFORM"
-nameOf (Marker f) = "MARKER"
-nameOf Wait = "WAIT"
-nameOf (LoadRepeat n) = "LOAD_REPEAT"
-nameOf (Repeat a) = "REPEAT"
-nameOf (Cmp x) = "CMP"
-nameOf (Goto a) = "GOTO"
-nameOf (Call a) = "CALL"
-nameOf (Return p) = "RETURN"
-nameOf Sync = "SYNC"
-nameOf (Modulator f) = "MODULATOR"
-nameOf (LoadCmp p) = "LOAD_CMP"
-nameOf (Prefetch a) = "PREFETCH"
-nameOf Noop = "NOOP"
 
 -- "the table's fields left to right .. (WAIT, SYNC, RETURN, LOAD_CMP show none ..)"
 abbrev pub showsNone : Body → Bool

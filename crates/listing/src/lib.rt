@@ -8,9 +8,10 @@ ghost use Rattle.buffer.specs.Put.{Fits, Put};
 ghost use Rattle.reader.specs.Reading.{readingOf};
 ghost use Rattle.page.specs.Text.{Entry, name, number, letters, digit, decimal, tab, lineFeed, restText, lineText, textOf};
 ghost use Rattle.instruction.specs.Word.{wordBytes, byteSpan};
-ghost use Rattle.listing.specs.Listing.{wordAt, nameOf, shownOf, entriesOf, entriesIn, linesFrom, listingOf, heardSize, heardOf, pageSize, Listed};
+ghost use Rattle.listing.specs.Listing.{wordAt, shownOf, entriesOf, entriesIn, linesFrom, listingOf, heardSize, heardOf, pageSize, Listed};
 use instruction::Body;
 use instruction::Instruction;
+use names::put_name;
 use page::put_end;
 use page::put_four;
 use page::put_number;
@@ -47,20 +48,6 @@ impl Listing {
 
     // Room for the longest listing: the header, and a line for each word.
     pub const PAGE: usize = Listing::LINE * (Listing::WORDS + 1);
-}
-
-// The name, after a tab: the table has eleven letters for each op code, and the name as many of them as its size.
-fn put_name(page: &mut [u8], at: usize, body: Body) -> usize
-    requires { ⌜ Fits (tab ∷ letters (nameOf body)) (now page) at ⌝ }
-    ensures { λ r. ⌜ Put (tab ∷ letters (nameOf body)) (now (page .entry)) at (now (page .exit)) r ⌝ }
-{
-    let names: [u8; 176] =
-        *b"WAVEFORM   MARKER     WAIT       LOAD_REPEATREPEAT     CMP        GOTO       CALL       RETURN     SYNC       MODULATOR  LOAD_CMP   PREFETCH                         NOOP       ";
-    let sizes: [usize; 16] = [8, 6, 4, 11, 6, 3, 4, 4, 6, 4, 9, 8, 8, 0, 0, 4];
-    let code = body.code() as usize;
-    let from = code * 11;
-    let end = from + sizes[code];
-    put_word(page, at, &names[from..end])
 }
 
 // The table's fields, and the end of the line.
@@ -139,12 +126,6 @@ fn put_pair(page: &mut [u8], text: &[u8], n: u64) -> usize
     put_one(page, end, n)
 }
 
-fn wide(x: u8) -> u64
-    ensures { λ r. ⌜ (r ≡ x) × (r < byteSpan) ⌝ }
-{
-    x as u64
-}
-
 // The word at an address, most significant byte first.
 fn word_at(bytes: &[u8], a: usize) -> u64
     requires { ⌜ (a + 1) * wordBytes ≤ length (now bytes) ⌝ }
@@ -154,7 +135,7 @@ fn word_at(bytes: &[u8], a: usize) -> u64
     let mut word: u64 = 0;
     let mut k: usize = 0;
     while k < Listing::WORD_BYTES {
-        word = word * Instruction::BYTE_SPAN + wide(bytes[from + k]);
+        word = word * Instruction::BYTE_SPAN + Instruction::wide(bytes[from + k]);
         k += 1;
     }
     word

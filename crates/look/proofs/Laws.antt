@@ -53,7 +53,7 @@ tells-yes (holds p) = p
 -- an address is closed where its parts are
 module _ (lim : ℕ) (ws : List ℕ) (r : ℕ) (ms : List ℕ) (a : ℕ) (o : Move) (f : Moves) (e : o ≡ moveAt ws a) (w : Follows lim o (getD ms a 0) r f) where
   abbrev Parts : Type 0
-  Parts = (bitOr r (backIn o (getD ms a 0)) ≡ r) × HoldsAt (length ws) ms (a + 1) (f .next) × HoldsAt (length ws) ms (f .to) (f .jump)
+  Parts = (bitOr r (backIn o (getD ms a 0)) ≡ r) × HoldsAt (length ws) ms (a + 1) (f .next) × HoldsAt (length ws) ms (f .to .0) (f .jump)
 
   tells-parts : {c : Bool} → Tells Parts c → Tells (ClosedAt lim ws r ms a) c
   tells-parts t = tells-as to from t
@@ -67,7 +67,7 @@ module _ (lim : ℕ) (ws : List ℕ) (r : ℕ) (ms : List ℕ) (a : ℕ) (o : Mo
       jump : f .jump ≡ jumpOf lim (moveAt ws a) m
       jump = w .jump ∙ ap (λ (z : Move). jumpOf lim z m) e
 
-      target : f .to ≡ toOf (moveAt ws a)
+      target : f .to .0 ≡ toOf (moveAt ws a)
       target = w .to ∙ ap toOf e
 
       to : Parts → ClosedAt lim ws r ms a
@@ -75,29 +75,29 @@ module _ (lim : ℕ) (ws : List ℕ) (r : ℕ) (ms : List ℕ) (a : ℕ) (o : Mo
           record {
             met = subst (λ (z : Move). bitOr r (backIn z m) ≡ r) e (p .0);
             next = subst (λ (z : ℕ). HoldsAt (length ws) ms (a + 1) z) next (p .1);
-            jump = subst (λ (z : ℕ). HoldsAt (length ws) ms z (jumpOf lim (moveAt ws a) m)) target (subst (λ (z : ℕ). HoldsAt (length ws) ms (f .to) z) jump (p .2));
+            jump = subst (λ (z : ℕ). HoldsAt (length ws) ms z (jumpOf lim (moveAt ws a) m)) target (subst (λ (z : ℕ). HoldsAt (length ws) ms (f .to .0) z) jump (p .2));
           }
 
       from : ClosedAt lim ws r ms a → Parts
       from k = (
         subst (λ (z : Move). bitOr r (backIn z m) ≡ r) (sym e) (k .met),
         subst (λ (z : ℕ). HoldsAt (length ws) ms (a + 1) z) (sym next) (k .next),
-        subst (λ (z : ℕ). HoldsAt (length ws) ms (f .to) z) (sym jump) (subst (λ (z : ℕ). HoldsAt (length ws) ms z (jumpOf lim (moveAt ws a) m)) (sym target) (k .jump)),
+        subst (λ (z : ℕ). HoldsAt (length ws) ms (f .to .0) z) (sym jump) (subst (λ (z : ℕ). HoldsAt (length ws) ms z (jumpOf lim (moveAt ws a) m)) (sym target) (k .jump)),
       )
 
-  pub tells-all : {c d : Bool} → Tells (bitOr r (backIn o (getD ms a 0)) ≡ r) c → Tells (HoldsAt (length ws) ms (a + 1) (f .next) × HoldsAt (length ws) ms (f .to) (f .jump)) d → Tells (ClosedAt lim ws r ms a) (c && d)
+  pub tells-all : {c d : Bool} → Tells (bitOr r (backIn o (getD ms a 0)) ≡ r) c → Tells (HoldsAt (length ws) ms (a + 1) (f .next) × HoldsAt (length ws) ms (f .to .0) (f .jump)) d → Tells (ClosedAt lim ws r ms a) (c && d)
   tells-all t u = tells-parts (tells-as (λ h. (h .0, h .1 .0, h .1 .1)) (λ p. (p .0, (p .1, p .2))) (tells-and t u))
 
   no-depth : backIn o (getD ms a 0) ≡ 0 → bitOr r (backIn o (getD ms a 0)) ≡ r
   no-depth z = ap (bitOr r) z ∙ or-zero r
 
-  no-jump : jumpOf lim o (getD ms a 0) ≡ 0 → HoldsAt (length ws) ms (f .to) (f .jump)
-  no-jump z = held-zero (length ws) ms (f .to) (f .jump) (w .jump ∙ z)
+  no-jump : jumpOf lim o (getD ms a 0) ≡ 0 → HoldsAt (length ws) ms (f .to .0) (f .jump)
+  no-jump z = held-zero (length ws) ms (f .to .0) (f .jump) (w .jump ∙ z)
 
   pub tells-next : {c : Bool} → backIn o (getD ms a 0) ≡ 0 → jumpOf lim o (getD ms a 0) ≡ 0 → Tells (HoldsAt (length ws) ms (a + 1) (f .next)) c → Tells (ClosedAt lim ws r ms a) c
   tells-next z y t = tells-parts (tells-as (λ h. (no-depth z, h, no-jump y)) (λ p. p .1) t)
 
-  pub tells-both : {c : Bool} → backIn o (getD ms a 0) ≡ 0 → Tells (HoldsAt (length ws) ms (a + 1) (f .next) × HoldsAt (length ws) ms (f .to) (f .jump)) c → Tells (ClosedAt lim ws r ms a) c
+  pub tells-both : {c : Bool} → backIn o (getD ms a 0) ≡ 0 → Tells (HoldsAt (length ws) ms (a + 1) (f .next) × HoldsAt (length ws) ms (f .to .0) (f .jump)) c → Tells (ClosedAt lim ws r ms a) c
   tells-both z t = tells-parts (tells-as (λ h. (no-depth z, h .0, h .1)) (λ p. (p .1, p .2)) t)
 
   pub tells-return : (b : ℕ) {c : Bool} → b ≡ backIn o (getD ms a 0) → jumpOf lim o (getD ms a 0) ≡ 0 → Tells (HoldsAt (length ws) ms (a + 1) (f .next)) c → Tells (ClosedAt lim ws r ms a) (c && eqb (bitOr r b) r)

@@ -40,7 +40,7 @@ pub data Tells (P : Type 0) : Bool → Type 0 where
   fails : (P → ⊥) → Tells P false
 
 -- marks for every word, room for hints, and depths that have their bits
-pub record Fits (ws ms : List ℕ) (len lim : ℕ) : Type 0 where
+pub record MarksFit (ws ms : List ℕ) (len lim : ℕ) : Type 0 where
   pub marks : length ws ≤ length ms
   pub room : len ≤ wordLimit
   pub limit : lim ≤ deepest

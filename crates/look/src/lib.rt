@@ -5,7 +5,7 @@ ghost use Prim.Native.Nat.{_+_, _≤_, _<_};
 ghost use lib.ListN.{length};
 ghost use lib.Bits.{bitOr};
 ghost use Rattle.flow.specs.Walk.{deepest};
-ghost use Rattle.look.specs.Closed.{faultIn, Fits, Tells, HoldsAt, backIn, ClosedAt, CleanAt};
+ghost use Rattle.look.specs.Closed.{faultIn, MarksFit, Tells, HoldsAt, backIn, ClosedAt, CleanAt};
 use flow::Mark;
 use flow::Move;
 use flow::Moves;
@@ -26,9 +26,9 @@ fn holds(n: usize, marks: &[u64], at: usize, x: u64) -> bool
 // Whether the next address and the target of an address hold what its moves put there.
 fn both_hold(n: usize, marks: &[u64], a: usize, f: Moves) -> bool
     requires { ⌜ (n ≤ length (now marks)) × (a < n) ⌝ }
-    ensures { λ r. ⌜ Tells (HoldsAt n (now (marks .entry)) (a + 1) (f .next) × HoldsAt n (now (marks .entry)) (f .to) (f .jump)) r ⌝ }
+    ensures { λ r. ⌜ Tells (HoldsAt n (now (marks .entry)) (a + 1) (f .next) × HoldsAt n (now (marks .entry)) (f .to .0) (f .jump)) r ⌝ }
 {
-    let to = f.to as usize;
+    let to = f.to.0 as usize;
     if !holds(n, marks, a + 1, f.next) {
         return false;
     }
@@ -51,7 +51,7 @@ fn knows(o: Move, m: u64, back: u64) -> bool
 
 // Whether all that an address leads to is marked.
 pub fn is_closed(words: &[u64], marks: &[u64], a: usize, back: u64, limit: u64) -> bool
-    requires { ⌜ Fits (now words) (now marks) 0 limit × (a < length (now words)) ⌝ }
+    requires { ⌜ MarksFit (now words) (now marks) 0 limit × (a < length (now words)) ⌝ }
     ensures { λ r. ⌜ Tells (ClosedAt limit (now (words .entry)) back (now (marks .entry)) a) r ⌝ }
 {
     let word = words[a];
@@ -63,7 +63,7 @@ pub fn is_closed(words: &[u64], marks: &[u64], a: usize, back: u64, limit: u64) 
 
 // Whether all that an address leads to is marked, and its word does not fault.
 pub fn is_clean(words: &[u64], marks: &[u64], a: usize, back: u64, limit: u64) -> bool
-    requires { ⌜ Fits (now words) (now marks) 0 limit × (a < length (now words)) ⌝ }
+    requires { ⌜ MarksFit (now words) (now marks) 0 limit × (a < length (now words)) ⌝ }
     ensures { λ r. ⌜ Tells (CleanAt limit (now (words .entry)) back (now (marks .entry)) a) r ⌝ }
 {
     let n = words.len();

@@ -27,7 +27,7 @@ use Rattle.jumps.specs.State.{Fixed, Did, stateOf, fresh, withCore, refusedBy, 
 use Rattle.jumps.specs.Jumps.{acts, repeatOf, gotoOf, callOf, returnOf, messageOf, holdOf}
 use Rattle.jumps.specs.declared.Core.{Core}
 use Rattle.jumps.specs.declared.State.{State}
-use Rattle.machine.specs.Step.{groupOf, sendOf, engineOf, anyAbove, syncOf, actOf, breaksGroup, executeOf, withReading, stepOf}
+use Rattle.machine.specs.Step.{groupOf, sendOf, engineWordOf, anyAbove, syncOf, actOf, breaksGroup, executeOf, withReading, stepOf}
 use Rattle.machine.specs.Kept.{Good}
 
 pub record Kept (e : Fixed) (s : State) (d : Did) : Type 0 where
@@ -150,8 +150,8 @@ module _ (e : Fixed) (s : State) (g : Good e s) where
       steps = omega arith;
     }
 
-    engines : (w : ℕ) → (w ≡ 0 → s .core .held < 7) → Kept e s (engineOf e s w)
-    unfolding engineOf
+    engines : (w : ℕ) → (w ≡ 0 → s .core .held < 7) → Kept e s (engineWordOf e s w)
+    unfolding engineWordOf
     engines w h = picks (Kept e s) (eqb w 0) (λ t. holds (h (eqb-true w 0 t))) (λ _. sends)
 
     -- what 22 lets through: room for a low engine word, and for any other word nothing held

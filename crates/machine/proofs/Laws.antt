@@ -22,12 +22,13 @@ use Rattle.buffer.specs.Put.{put}
 use Rattle.buffer.proofs.Laws.{put-none}
 use Rattle.dispatch.proofs.Counts.{picks, counted-more}
 use Rattle.instruction.specs.Form.{numbered}
-use Rattle.jumps.specs.State.{Fixed, Did, stateOf, withCore, refusedBy, stop, moves, Done, Traced}
+use Rattle.jumps.specs.State.{Fixed, Did, stateOf, withCore, refusedBy, stop, moves}
+use Rattle.jumps.specs.Lent.{Done, Traced}
 use Rattle.jumps.specs.Jumps.{holdOf}
 use Rattle.jumps.specs.declared.Core.{Core}
 use Rattle.jumps.specs.declared.State.{State}
 use Rattle.jumps.specs.declared.Stepped.{Stepped}
-use Rattle.machine.specs.Step.{groupOf, sent, sendOf, engineOf, anyAbove, syncOf, actOf, breaksGroup, executeOf, withReading, stepOf}
+use Rattle.machine.specs.Step.{groupOf, sent, sendOf, engineWordOf, anyAbove, syncOf, actOf, breaksGroup, executeOf, withReading, stepOf}
 use Rattle.machine.specs.Kept.{At, Sends, goesOut, groupRefused}
 
 -- ---- answers
@@ -50,12 +51,12 @@ pub send-whole : (e : Fixed) (s : State) → s .core .sent + (s .core .held + 1)
 unfolding sendOf
 send-whole e s h = rw (le-leb (s .core .sent + (s .core .held + 1)) (e .room) h)
 
-pub engine-low : (e : Fixed) (s : State) (w : ℕ) → w ≡ 0 → engineOf e s w ≡ moves (withCore (holdOf (s .core)) s)
-unfolding engineOf
+pub engine-low : (e : Fixed) (s : State) (w : ℕ) → w ≡ 0 → engineWordOf e s w ≡ moves (withCore (holdOf (s .core)) s)
+unfolding engineWordOf
 engine-low e s w h = rw h
 
-pub engine-high : (e : Fixed) (s : State) (w : ℕ) → (w ≡ 0 → ⊥) → engineOf e s w ≡ sendOf e s
-unfolding engineOf
+pub engine-high : (e : Fixed) (s : State) (w : ℕ) → (w ≡ 0 → ⊥) → engineWordOf e s w ≡ sendOf e s
+unfolding engineWordOf
 engine-high e s w h = rw (ne-eqb w 0 h)
 
 pub sync-stops : (e : Fixed) (s : State) → anyAbove (e .setting .triggers) (s .waits) ≡ true → syncOf e s ≡ stop 41 s

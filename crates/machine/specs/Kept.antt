@@ -5,6 +5,7 @@ use mathlib.Core.Bool.{Bool, true, false}
 use mathlib.Core.List.{List}
 use lib.Dec.{eqb}
 use lib.ListN.{length}
+use denote.Ref.{RefT, now}
 use Rattle.instruction.specs.Bits.{pick}
 use Rattle.instruction.specs.declared.Instruction.{Instruction}
 use Rattle.instruction.specs.declared.Body.{Body}
@@ -12,10 +13,13 @@ use Rattle.instruction.specs.declared.Body.the-variants.{Waveform, Marker, Wait
 use Rattle.sequence.specs.Bounds.{stackDepth, budgetLimit, groupSize}
 use Rattle.sequence.specs.Placing.{placingOf}
 use Rattle.dispatch.specs.Engines.{AllLe, Counted}
-use Rattle.jumps.specs.State.{Fixed}
-use Rattle.jumps.specs.Asked.{Holds}
+use Rattle.jumps.specs.State.{Fixed, Did, fixedBy, stateOf}
+use Rattle.jumps.specs.Lent.{Traced}
+use Rattle.jumps.specs.Asked.{CanHold}
 use Rattle.jumps.specs.declared.Core.{Core}
 use Rattle.jumps.specs.declared.State.{State}
+use Rattle.jumps.specs.declared.Setting.{Setting}
+use Rattle.jumps.specs.declared.Stepped.{Stepped}
 use Rattle.machine.specs.Step.{breaksGroup}
 
 pub record Good (e : Fixed) (s : State) : Type 0 where
@@ -40,7 +44,7 @@ pub record At (e : Fixed) (s : State) : Type 0 where
 
 -- a group that ends at the address can go out
 pub record Sends (words : List ℕ) (room : ℕ) (c : Core) (ws ts : List ℕ) : Type 0 where
-  pub holds : Holds c
+  pub holds : CanHold c
   pub inside : c .address .0 < length words
   pub behind : c .held ≤ c .address .0
   pub sent : c .sent ≤ room
@@ -68,3 +72,9 @@ abbrev pub groupRefused : ℕ → Instruction → ℕ → ℕ → ℕ
 groupRefused held i n wave =
     pick (eqb held 0) 0
     (pick (eqb (placingOf wave n (i .body)) 0) (pick (breaksGroup held (i .write) (i .body)) 22 0) (placingOf wave n (i .body)))
+
+-- what is left of what is lent by a function that takes no message and leaves the stack alone, whatever these are
+abbrev pub Outward : (Fixed → State → Did) → RefT (List ℕ) → RefT (List ℕ) → RefT (List ℕ) → Core → Setting → Stepped → RefT (List ℕ) → RefT (List ℕ) → RefT (List ℕ) → RefT (List ℕ) → Type 0
+Outward did words before after s setting r waits totals waits′ totals′ =
+    (messages returns counters : List ℕ)
+    → Traced (did (fixedBy (now words) messages (length (now before)) setting) (stateOf s returns counters (now waits) (now totals))) (s .sent) (now before) (now after) r returns counters (now waits′) (now totals′)

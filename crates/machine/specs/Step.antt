@@ -40,8 +40,8 @@ sendOf e s =
     (record { end = numbered 0; state = sent e s; out = groupOf e (s .core) })
     (stop 43 s)
 
-unfoldable pub engineOf : Fixed → State → ℕ → Did
-engineOf e s write = pick (eqb write 0) (moves (withCore (holdOf (s .core)) s)) (sendOf e s)
+unfoldable pub engineWordOf : Fixed → State → ℕ → Did
+engineWordOf e s write = pick (eqb write 0) (moves (withCore (holdOf (s .core)) s)) (sendOf e s)
 
 -- H6: "SYNC ends with 41 while any engine's count exceeds the triggers given."
 abbrev pub anyAbove : ℕ → List ℕ → Bool
@@ -55,8 +55,8 @@ syncOf e s = pick (anyAbove (e .setting .triggers) (s .waits)) (stop 41 s) (send
 
 -- what an instruction does that form, 20, 21 and 22 let through; "PREFETCH, NOOP and sync waits change nothing else."
 unfoldable pub actOf : Fixed → State → ℕ → Body → Did
-actOf e s write (Waveform f) = engineOf e s write
-actOf e s write (Marker f) = engineOf e s write
+actOf e s write (Waveform f) = engineWordOf e s write
+actOf e s write (Marker f) = engineWordOf e s write
 actOf e s write Wait = sendOf e s
 actOf e s write (LoadRepeat n) = moves (withCore (nexts (withCounter (n .0) (s .core))) s)
 actOf e s write (Repeat a) = moves (withCore (repeatOf (s .core) (a .0)) s)
@@ -65,7 +65,7 @@ actOf e s write (Goto a) = moves (withCore (gotoOf (s .core) (a .0)) s)
 actOf e s write (Call a) = callOf s (a .0)
 actOf e s write (Return p) = returnOf s
 actOf e s write Sync = syncOf e s
-actOf e s write (Modulator f) = engineOf e s write
+actOf e s write (Modulator f) = engineWordOf e s write
 actOf e s write (LoadCmp p) = messageOf (e .messages) s
 actOf e s write (Prefetch a) = moves (withCore (nexts (s .core)) s)
 actOf e s write Noop = moves (withCore (nexts (s .core)) s)

@@ -9,10 +9,11 @@ ghost use lib.Dec.{eqb};
 ghost use Rattle.instruction.specs.Bits.{pick};
 ghost use Rattle.instruction.specs.Table.{codeOf};
 ghost use Rattle.dispatch.specs.Engines.{engineCount};
-ghost use Rattle.jumps.specs.State.{fixedBy, stateOf, Traced};
+ghost use Rattle.jumps.specs.State.{fixedIn};
+ghost use Rattle.jumps.specs.Lent.{stateIn, Leaves};
 ghost use Rattle.jumps.specs.declared.Setting.{Setting};
 ghost use Rattle.machine.specs.Step.{sendOf, anyAbove, actOf, breaksGroup, executeOf, stepOf};
-ghost use Rattle.machine.specs.Kept.{Sends, Ready, At, goesOut, groupRefused};
+ghost use Rattle.machine.specs.Kept.{Outward, Sends, Ready, At, goesOut, groupRefused};
 use dispatch::Engines;
 use dispatch::dispatch;
 use instruction::Body;
@@ -38,7 +39,8 @@ fn send(
     s: Core,
 ) -> Stepped
     requires { ⌜ Sends (now words) (length (now trace)) s (now waits) (now totals) ⌝ }
-    ensures { λ r. ⌜ ((ms rs cs : List ℕ) (setting : Setting) → Traced (sendOf (fixedBy (now (words .entry)) ms (length (now (trace .entry))) setting) (stateOf s rs cs (now (waits .entry)) (now (totals .entry)))) (s .sent) (now (trace .entry)) (now (trace .exit)) r rs cs (now (waits .exit)) (now (totals .exit))) ⌝ }
+    ensures { λ r. ⌜ ((setting : Setting) → Outward sendOf (words .entry) (trace .entry) (trace .exit) s setting r
+        (waits .entry) (totals .entry) (waits .exit) (totals .exit)) ⌝ }
 {
     let held = s.held;
     let sent = s.sent;
@@ -90,7 +92,8 @@ fn outward(
     setting: Setting,
 ) -> Stepped
     requires { ⌜ Sends (now words) (length (now trace)) s (now waits) (now totals) × (goesOut body ≡ true) ⌝ }
-    ensures { λ r. ⌜ ((ms rs cs : List ℕ) → Traced (actOf (fixedBy (now (words .entry)) ms (length (now (trace .entry))) setting) (stateOf s rs cs (now (waits .entry)) (now (totals .entry))) write body) (s .sent) (now (trace .entry)) (now (trace .exit)) r rs cs (now (waits .exit)) (now (totals .exit))) ⌝ }
+    ensures { λ r. ⌜ Outward (λ e s. actOf e s write body) (words .entry) (trace .entry) (trace .exit) s setting r
+        (waits .entry) (totals .entry) (waits .exit) (totals .exit) ⌝ }
 {
     if awaits_trigger(body, setting.triggers, waits) {
         return Stepped::stop(Stepped::TRIGGER_AWAITED, s);
@@ -115,8 +118,10 @@ fn act(
     body: Body,
     setting: Setting,
 ) -> Stepped
-    requires { ⌜ At (fixedBy (now words) (now messages) (length (now trace)) setting) (stateOf s (now returns) (now counters) (now waits) (now totals)) ⌝ }
-    ensures { λ r. ⌜ Traced (actOf (fixedBy (now (words .entry)) (now (messages .entry)) (length (now (trace .entry))) setting) (stateOf s (now (returns .entry)) (now (counters .entry)) (now (waits .entry)) (now (totals .entry))) write body) (s .sent) (now (trace .entry)) (now (trace .exit)) r (now (returns .exit)) (now (counters .exit)) (now (waits .exit)) (now (totals .exit)) ⌝ }
+    requires { ⌜ At (fixedIn words messages trace setting) (stateIn s returns counters waits totals) ⌝ }
+    ensures { λ r. ⌜ Leaves (actOf (fixedIn (words .entry) (messages .entry) (trace .entry) setting)
+        (stateIn s (returns .entry) (counters .entry) (waits .entry) (totals .entry)) write body)
+        (s .sent) (trace .entry) (trace .exit) r (returns .exit) (counters .exit) (waits .exit) (totals .exit) ⌝ }
 {
     match body {
         Body::LoadRepeat(n) => return Stepped::moves(s.loads(n.0)),
@@ -155,7 +160,7 @@ fn group_refused(held: u64, i: Instruction, n: u64, wave: QuadSamples) -> u64
         return 0;
     }
     let body = i.body;
-    let placing = Sequence::placing(wave.0, n, body);
+    let placing = Sequence::placing(wave, n, body);
     if placing != 0 {
         return placing;
     }
@@ -178,8 +183,10 @@ fn execute(
     i: Instruction,
     setting: Setting,
 ) -> Stepped
-    requires { ⌜ At (fixedBy (now words) (now messages) (length (now trace)) setting) (stateOf s (now returns) (now counters) (now waits) (now totals)) ⌝ }
-    ensures { λ r. ⌜ Traced (executeOf (fixedBy (now (words .entry)) (now (messages .entry)) (length (now (trace .entry))) setting) (stateOf s (now (returns .entry)) (now (counters .entry)) (now (waits .entry)) (now (totals .entry))) i) (s .sent) (now (trace .entry)) (now (trace .exit)) r (now (returns .exit)) (now (counters .exit)) (now (waits .exit)) (now (totals .exit)) ⌝ }
+    requires { ⌜ At (fixedIn words messages trace setting) (stateIn s returns counters waits totals) ⌝ }
+    ensures { λ r. ⌜ Leaves (executeOf (fixedIn (words .entry) (messages .entry) (trace .entry) setting)
+        (stateIn s (returns .entry) (counters .entry) (waits .entry) (totals .entry)) i)
+        (s .sent) (trace .entry) (trace .exit) r (returns .exit) (counters .exit) (waits .exit) (totals .exit) ⌝ }
 {
     let n = words.len() as u64;
     let refused = group_refused(s.held, i, n, setting.wave);
@@ -187,7 +194,7 @@ fn execute(
         return Stepped::stop(refused, s);
     }
     let body = i.body;
-    let placing = Sequence::placing(setting.wave.0, n, body);
+    let placing = Sequence::placing(setting.wave, n, body);
     if placing != 0 {
         return Stepped::stop(placing, s);
     }
@@ -218,8 +225,10 @@ pub fn step(
     s: Core,
     setting: Setting,
 ) -> Stepped
-    requires { ⌜ Ready (fixedBy (now words) (now messages) (length (now trace)) setting) (stateOf s (now returns) (now counters) (now waits) (now totals)) ⌝ }
-    ensures { λ r. ⌜ Traced (stepOf (fixedBy (now (words .entry)) (now (messages .entry)) (length (now (trace .entry))) setting) (stateOf s (now (returns .entry)) (now (counters .entry)) (now (waits .entry)) (now (totals .entry)))) (s .sent) (now (trace .entry)) (now (trace .exit)) r (now (returns .exit)) (now (counters .exit)) (now (waits .exit)) (now (totals .exit)) ⌝ }
+    requires { ⌜ Ready (fixedIn words messages trace setting) (stateIn s returns counters waits totals) ⌝ }
+    ensures { λ r. ⌜ Leaves (stepOf (fixedIn (words .entry) (messages .entry) (trace .entry) setting)
+        (stateIn s (returns .entry) (counters .entry) (waits .entry) (totals .entry)))
+        (s .sent) (trace .entry) (trace .exit) r (returns .exit) (counters .exit) (waits .exit) (totals .exit) ⌝ }
 {
     let at = s.address.0 as usize;
     if words.len() <= at {

@@ -2,9 +2,9 @@
 use Prim.Native.Nat.{ℕ, _≤_}
 use mathlib.Core.Path.{_≡_}
 use mathlib.Core.List.{List, [], _∷_}
-use Rattle.instruction.specs.Table.{codeOf}
+use Rattle.instruction.specs.Table.{codeOf, lastCode, waveformOf}
 use Rattle.instruction.specs.Word.{codeIn}
-use Rattle.instruction.specs.declared.Body.the-variants.{LoadRepeat, Return, Prefetch}
+use Rattle.instruction.specs.declared.Body.the-variants.{Waveform, LoadRepeat, Return}
 
 unfoldable pub namedBits : List ℕ
 namedBits =
@@ -26,9 +26,9 @@ namedBits =
     ∷ 0xFD00_0000_0000_0000
     ∷ []
 
--- what a function knows of a word's op code that judges by it: 0 WAVEFORM
+-- what a function knows of a word's op code that judges by it: WAVEFORM
 abbrev pub IsWaveform : ℕ → Type 0
-IsWaveform word = codeIn word ≡ 0
+IsWaveform word = codeIn word ≡ codeOf (Waveform (waveformOf []))
 
 -- LOAD_REPEAT to RETURN
 abbrev pub IsFlow : ℕ → Type 0
@@ -36,4 +36,4 @@ IsFlow word = (codeOf (LoadRepeat (record { 0 = 0 })) ≤ codeIn word) × (codeI
 
 -- none of those that 10 is given for
 abbrev pub IsCode : ℕ → Type 0
-IsCode word = codeIn word ≤ codeOf (Prefetch (record { 0 = 0 }))
+IsCode word = codeIn word ≤ lastCode

@@ -3,9 +3,9 @@
 use Prim.Native.Nat.{ℕ, zero, suc}
 use mathlib.Core.Bool.{Bool, false, not, _||_, _&&_}
 use mathlib.Core.List.{List, [], _∷_}
-use lib.Dec.{eqb, leb}
+use lib.Dec.{eqb, ltb}
 use Rattle.instruction.specs.Bits.{pick, _gives_else_, isSet, isIn, held}
-use Rattle.instruction.specs.Table.{opCode, engineSelect, writeFlag, engineOp, payloadOf, codeOf, noopWord, waitOp, syncOp}
+use Rattle.instruction.specs.Table.{opCode, engineSelect, writeFlag, engineOp, payloadOf, codeOf, lastCode, noopWord, waitOp, syncOp}
 use Rattle.instruction.specs.Form.{numbered, formOf}
 use Rattle.instruction.specs.Word.{codeIn, spelledBy, noop}
 use Rattle.instruction.specs.declared.Field.{Field}
@@ -31,7 +31,7 @@ isNamed code k = isInOne k (opCode ∷ engineSelect ∷ writeFlag ∷ payloadOf 
 
 -- "10 op code 13 to 15, not NOOP"
 abbrev pub noSuchCode : ℕ → Bool
-noSuchCode word = leb 13 (codeIn word)
+noSuchCode word = ltb lastCode (codeIn word)
 
 -- "11 a bit set that is not named"
 unfoldable pub hasUnnamed : ℕ → Bool

@@ -15,7 +15,8 @@ use Rattle.instruction.specs.declared.Refusal.{Refusal}
 use Rattle.sequence.specs.Bounds.{budgetLimit, lengthsRefused}
 use Rattle.buffer.specs.Put.{put}
 use Rattle.buffer.proofs.Laws.{put-none, length-put, put-put, put-front}
-use Rattle.jumps.specs.State.{Fixed, fixedBy, Did, stateOf, fresh, stop, stopped, Traced}
+use Rattle.jumps.specs.State.{Fixed, fixedBy, Did, stateOf, fresh, stop, stopped}
+use Rattle.jumps.specs.Lent.{Traced}
 use Rattle.jumps.specs.declared.Setting.{Setting}
 use Rattle.jumps.specs.declared.State.{State}
 use Rattle.jumps.specs.declared.Stepped.{Stepped}

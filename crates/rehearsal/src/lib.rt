@@ -3,7 +3,8 @@
 ghost use mathlib.Core.Path.{_≡_};
 ghost use lib.ListN.{length};
 ghost use Rattle.instruction.specs.Form.{numbered};
-ghost use Rattle.jumps.specs.State.{fixedBy, stateOf, fresh, Traced};
+ghost use Rattle.jumps.specs.State.{fixedIn, fresh};
+ghost use Rattle.jumps.specs.Lent.{stateIn, Leaves};
 ghost use Rattle.rehearsal.specs.Run.{runOf, inputRefused, rehearse, Rehearsed, CanGo};
 use dispatch::Engines;
 use instruction::QuadSamples;
@@ -44,8 +45,8 @@ impl Answer {
 }
 
 // 1, 2, 3, 5 or 0.
-fn input_refused(n: u64, wave: u64, budget: u64) -> u64
-    ensures { λ r. ⌜ r ≡ inputRefused n wave budget ⌝ }
+fn input_refused(n: u64, wave: QuadSamples, budget: u64) -> u64
+    ensures { λ r. ⌜ r ≡ inputRefused n (wave .0) budget ⌝ }
 {
     let lengths = Sequence::lengths_refused(n, wave);
     if lengths != 0 {
@@ -70,8 +71,10 @@ fn go_on(
     budget: u64,
     setting: Setting,
 ) -> Stepped
-    requires { ⌜ CanGo budget (fixedBy (now words) (now messages) (length (now trace)) setting) (stateOf s (now returns) (now counters) (now waits) (now totals)) ⌝ }
-    ensures { λ r. ⌜ Traced (runOf budget (fixedBy (now (words .entry)) (now (messages .entry)) (length (now (trace .entry))) setting) (stateOf s (now (returns .entry)) (now (counters .entry)) (now (waits .entry)) (now (totals .entry)))) (s .sent) (now (trace .entry)) (now (trace .exit)) r (now (returns .exit)) (now (counters .exit)) (now (waits .exit)) (now (totals .exit)) ⌝ }
+    requires { ⌜ CanGo budget (fixedIn words messages trace setting) (stateIn s returns counters waits totals) ⌝ }
+    ensures { λ r. ⌜ Leaves (runOf budget (fixedIn (words .entry) (messages .entry) (trace .entry) setting)
+        (stateIn s (returns .entry) (counters .entry) (waits .entry) (totals .entry)))
+        (s .sent) (trace .entry) (trace .exit) r (returns .exit) (counters .exit) (waits .exit) (totals .exit) ⌝ }
 {
     let mut at = s;
     let mut left = budget;
@@ -106,8 +109,9 @@ fn from_fresh(
     budget: u64,
     setting: Setting,
 ) -> Answer
-    requires { ⌜ CanGo budget (fixedBy (now words) (now messages) (length (now trace)) setting) fresh ⌝ }
-    ensures { λ r. ⌜ Rehearsed (runOf budget (fixedBy (now (words .entry)) (now (messages .entry)) (length (now (trace .entry))) setting) fresh) (now (trace .entry)) (now (trace .exit)) r ⌝ }
+    requires { ⌜ CanGo budget (fixedIn words messages trace setting) fresh ⌝ }
+    ensures { λ r. ⌜ Rehearsed (runOf budget (fixedIn (words .entry) (messages .entry) (trace .entry) setting) fresh)
+        (now (trace .entry)) (now (trace .exit)) r ⌝ }
 {
     let mut returns = [0; Sequence::STACK as usize];
     let mut counters = [0; Sequence::STACK as usize];
@@ -147,9 +151,10 @@ pub fn run(
     trace: &mut [u64],
     budget: u64,
 ) -> Answer
-    ensures { λ r. ⌜ Rehearsed (rehearse budget (fixedBy (now (words .entry)) (now (messages .entry)) (length (now (trace .entry))) (record { wave = wave; triggers = triggers }))) (now (trace .entry)) (now (trace .exit)) r ⌝ }
+    ensures { λ r. ⌜ Rehearsed (rehearse budget (fixedIn (words .entry) (messages .entry) (trace .entry) (record { wave = wave; triggers = triggers })))
+        (now (trace .entry)) (now (trace .exit)) r ⌝ }
 {
-    let refused = input_refused(words.len() as u64, wave.0, budget);
+    let refused = input_refused(words.len() as u64, wave, budget);
     if refused != 0 {
         return Answer::refused(refused);
     }

@@ -1,5 +1,6 @@
 // Words as lines of the listing.
 // A place is told with the word that stands there, and a long trace is cut.
+use instruction::WordAddress;
 use listing::Listing;
 use told::say;
 use told::say_number;
@@ -48,19 +49,20 @@ fn say_past(words: &[u64]) {
 }
 
 // Where it is, and the listing's line of the word there.
-pub fn say_place(words: &[u64], place: usize) {
+pub fn say_place(words: &[u64], place: WordAddress) {
     if words.len() == 0 {
         say(b"\n");
         return;
     }
     say(b" at word ");
-    say_number(place as u64);
-    if words.len() <= place {
+    say_number(place.0);
+    let at = place.0 as usize;
+    if words.len() <= at {
         say_past(words);
         return;
     }
     say(b"\n");
-    say_word(place as u64, words[place]);
+    say_word(place.0, words[at]);
 }
 
 fn say_rest(n: usize) {

@@ -2,6 +2,7 @@
 ghost use Prim.Native.Nat.{_<_};
 use crate::complaint::complain;
 use crate::complaint::complain_number;
+use instruction::QuadSamples;
 use sequence::Sequence;
 use typed::Amount;
 use typed::number;
@@ -41,7 +42,7 @@ pub struct Asked {
     pub hex: bool,
     pub json: bool,
     pub has_wave: bool,
-    pub wave: u64,
+    pub wave: QuadSamples,
     pub triggers: u64,
     pub budget: u64,
     pub room: u64,
@@ -151,7 +152,7 @@ impl Asked {
             hex: false,
             json: false,
             has_wave: false,
-            wave: 0,
+            wave: QuadSamples(0),
             triggers: 0,
             budget: Sequence::BUDGET,
             room: Asked::ROOM,
@@ -209,7 +210,8 @@ impl Asked {
 
     fn with_number(mut self, option: u64, n: u64) -> Asked {
         if option == WAVE {
-            self.wave = n;
+            let wave = QuadSamples(n);
+            self.wave = wave;
             self.has_wave = true;
         }
         if option == TRIGGERS {
@@ -305,7 +307,7 @@ impl Asked {
 
 fn most_of(option: u64) -> u32 {
     match option {
-        WAVE => Sequence::WAVE as u32,
+        WAVE => Sequence::WAVE.0 as u32,
         BUDGET => Sequence::BUDGET as u32,
         ROOM => Asked::MOST_ROOM as u32,
         _ => u32::MAX,

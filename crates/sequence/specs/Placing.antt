@@ -3,11 +3,14 @@
 use Prim.Native.Nat.{ℕ, _+_}
 use mathlib.Core.Bool.{Bool, true, false, not, _||_, _&&_}
 use lib.Dec.{ltb, eqb, leb}
+use lib.ListN.{getD}
 use Rattle.instruction.specs.Bits.{_gives_else_}
 use Rattle.instruction.specs.Form.{plays, prefetches}
+use Rattle.instruction.specs.Table.{codeOf, valuesOf}
 use Rattle.instruction.specs.declared.WaveformFields.{WaveformFields}
 use Rattle.instruction.specs.declared.MarkerFields.{MarkerFields}
 use Rattle.instruction.specs.declared.ModulatorFields.{ModulatorFields}
+use Rattle.instruction.specs.declared.WordAddress.{WordAddress}
 use Rattle.instruction.specs.declared.Body.{Body}
 use Rattle.instruction.specs.declared.Body.the-variants.{Waveform, Marker, Wait, LoadRepeat, Repeat, Cmp, Goto, Call, Return, Sync, Modulator, LoadCmp, Prefetch, Noop}
 
@@ -37,22 +40,12 @@ outOfWave wave f =
     (plays (f .op) && eqb (f .ta) 0 && not (leb (f .address .0 + f .count .0) wave))
     || ((plays (f .op) && not (eqb (f .ta) 0) || prefetches (f .op)) && not (ltb (f .address .0) wave))
 
--- "21 REPEAT, GOTO, CALL or PREFETCH address ≥ n"
+-- "21 REPEAT, GOTO, CALL or PREFETCH address ≥ n": those whose one field is an address of words
+abbrev pub hasTarget : ℕ → Bool
+hasTarget code = let none : WordAddress = record { 0 = 0 } in eqb code (codeOf (Repeat none)) || eqb code (codeOf (Goto none)) || eqb code (codeOf (Call none)) || eqb code (codeOf (Prefetch none))
+
 abbrev pub outOfWords : ℕ → Body → Bool
-outOfWords n (Waveform f) = false
-outOfWords n (Marker f) = false
-outOfWords n Wait = false
-outOfWords n (LoadRepeat r) = false
-outOfWords n (Repeat a) = leb n (a .0)
-outOfWords n (Cmp x) = false
-outOfWords n (Goto a) = leb n (a .0)
-outOfWords n (Call a) = leb n (a .0)
-outOfWords n (Return p) = false
-outOfWords n Sync = false
-outOfWords n (Modulator f) = false
-outOfWords n (LoadCmp p) = false
-outOfWords n (Prefetch a) = leb n (a .0)
-outOfWords n Noop = false
+outOfWords n b = hasTarget (codeOf b) && leb n (getD (valuesOf b) 0 0)
 
 -- 20, 21, and 0 where neither is given, with W quad-samples of waveform memory and n words
 unfoldable pub placingOf : ℕ → ℕ → Body → ℕ

@@ -8,6 +8,7 @@ ghost use Rattle.sequence.specs.Bounds.{lengthsRefused};
 ghost use Rattle.sequence.specs.Placing.{isEngine, outOfWave, placingOf};
 use instruction::Body;
 use instruction::EngineOp;
+use instruction::QuadSamples;
 use instruction::WaveformFields;
 use instruction::WordAddress;
 
@@ -16,8 +17,8 @@ pub struct Sequence;
 impl Sequence {
     pub const WORDS: u64 = 65536;
 
-    // Waveform memory, in quad-samples.
-    pub const WAVE: u64 = 16777216;
+    // Waveform memory.
+    pub const WAVE: QuadSamples = QuadSamples(16777216);
 
     // H1: entries of the stack.
     pub const STACK: u64 = 16;
@@ -52,8 +53,8 @@ impl Sequence {
     pub const STACK_EMPTY: u64 = 32;
 
     // 1, 2, 3 or 0, for n words and a waveform memory.
-    pub fn lengths_refused(n: u64, wave: u64) -> u64
-        ensures { λ r. ⌜ r ≡ lengthsRefused n wave ⌝ }
+    pub fn lengths_refused(n: u64, wave: QuadSamples) -> u64
+        ensures { λ r. ⌜ r ≡ lengthsRefused n (wave .0) ⌝ }
     {
         if n == 0 {
             return Sequence::NO_WORDS;
@@ -61,7 +62,7 @@ impl Sequence {
         if Sequence::WORDS < n {
             return Sequence::TOO_MANY_WORDS;
         }
-        if Sequence::WAVE < wave {
+        if Sequence::WAVE.0 < wave.0 {
             return Sequence::TOO_MUCH_WAVE;
         }
         0
@@ -88,29 +89,30 @@ impl Sequence {
         }
     }
 
-    fn reaches_past(wave: u64, address: u64, count: u64) -> bool
-        ensures { λ r. ⌜ r ≡ not (leb (address + count) wave) ⌝ }
+    fn reaches_past(wave: QuadSamples, address: QuadSamples, count: QuadSamples) -> bool
+        ensures { λ r. ⌜ r ≡ not (leb (address .0 + count .0) (wave .0)) ⌝ }
     {
-        if wave < address {
+        if wave.0 < address.0 {
             return true;
         }
-        wave - address < count
+        wave.0 - address.0 < count.0
     }
 
-    fn out_of_wave(wave: u64, f: WaveformFields) -> bool
-        ensures { λ r. ⌜ r ≡ outOfWave wave f ⌝ }
+    fn out_of_wave(wave: QuadSamples, f: WaveformFields) -> bool
+        ensures { λ r. ⌜ r ≡ outOfWave (wave .0) f ⌝ }
     {
         let op = f.op;
         let ta = f.ta;
-        let address = f.address.0;
+        let address = f.address;
         if (op == EngineOp::PLAY) & (ta == 0) {
-            return Sequence::reaches_past(wave, address, f.count.0);
+            let count = f.count;
+            return Sequence::reaches_past(wave, address, count);
         }
-        ((op == EngineOp::PLAY) | (op == EngineOp::PREFETCH)) & !(address < wave)
+        ((op == EngineOp::PLAY) | (op == EngineOp::PREFETCH)) & !(address.0 < wave.0)
     }
 
-    fn waveform_placing(wave: u64, f: WaveformFields) -> u64
-        ensures { λ r. ⌜ r ≡ placingOf wave 0 (Body.Waveform f) ⌝ }
+    fn waveform_placing(wave: QuadSamples, f: WaveformFields) -> u64
+        ensures { λ r. ⌜ r ≡ placingOf (wave .0) 0 (Body.Waveform f) ⌝ }
     {
         if Sequence::out_of_wave(wave, f) {
             Sequence::OUT_OF_WAVE
@@ -127,8 +129,8 @@ impl Sequence {
     }
 
     // 20, 21 or 0, with a waveform memory and n words.
-    pub fn placing(wave: u64, n: u64, body: Body) -> u64
-        ensures { λ r. ⌜ r ≡ placingOf wave n body ⌝ }
+    pub fn placing(wave: QuadSamples, n: u64, body: Body) -> u64
+        ensures { λ r. ⌜ r ≡ placingOf (wave .0) n body ⌝ }
     {
         match body {
             Body::Waveform(f) => Sequence::waveform_placing(wave, f),

@@ -11,7 +11,7 @@ use borrow.Author.Tests.{lt-ltb, le-ltb, leb-true, eq-eqb, ne-eqb}
 use lib.Dec.{leb, eqb}
 use lib.ListN.{length, drop, getD}
 use lib.Seq.{drop-cons}
-use Rattle.typed.specs.Number.{between, isDigit, valueFrom, allDigits, someDigits, atMost, numberOf, sameText, capped}
+use Rattle.typed.specs.Number.{between, isDigit, valueFrom, allDigits, someDigits, atMost, amountOf, sameText, capped}
 use Rattle.typed.specs.declared.Amount.the-variants.{Is, NoNumber, TooLarge}
 
 both : (a b : Bool) → (a && b) ≡ true → (a ≡ true) × (b ≡ true)
@@ -94,7 +94,7 @@ module _ (most : ℕ) (text : List ℕ) (value i : ℕ) (h : i < length text) (r
             ∙ r .said;
       }
 
-  pub read-none : isDigit b ≡ false → NoNumber ≡ numberOf most text
+  pub read-none : isDigit b ≡ false → NoNumber ≡ amountOf most text
   read-none e = rw (r .digits ∙ ap allDigits rest ∙ ap (λ (t : Bool). t && allDigits (drop (i + 1) text)) e)
 
 pub ended : (text : List ℕ) (i : ℕ) → length text ≤ i → drop i text ≡ []
@@ -110,26 +110,26 @@ module _ (most : ℕ) (text : List ℕ) (value i : ℕ) (h : length text ≤ i) 
   digits : someDigits text ≡ true
   digits = r .digits ∙ ap allDigits (ended text i h)
 
-  number : numberOf most text ≡ atMost most (valueFrom 0 text)
+  number : amountOf most text ≡ atMost most (valueFrom 0 text)
   number = rw digits
 
-  pub read-large : most < value → TooLarge ≡ numberOf most text
+  pub read-large : most < value → TooLarge ≡ amountOf most text
   read-large l = by (decLt most (valueFrom 0 text))
     where
-      by : Dec (most < valueFrom 0 text) → TooLarge ≡ numberOf most text
+      by : Dec (most < valueFrom 0 text) → TooLarge ≡ amountOf most text
       by (yes g) = sym (number ∙ at-most-above most (valueFrom 0 text) g)
       by (no g) = absurd (omega (arith, said, capped-above most value l, capped-within most (valueFrom 0 text) (omega arith)))
 
-  pub read-number : value ≤ most → Is value ≡ numberOf most text
+  pub read-number : value ≤ most → Is value ≡ amountOf most text
   read-number l = by (decLt most (valueFrom 0 text))
     where
-      by : Dec (most < valueFrom 0 text) → Is value ≡ numberOf most text
+      by : Dec (most < valueFrom 0 text) → Is value ≡ amountOf most text
       by (yes g) = absurd (omega (arith, said, capped-within most value l, capped-above most (valueFrom 0 text) g))
       by (no g) =
           ap (λ (x : ℕ). Is x) (sym (capped-within most value l) ∙ said ∙ capped-within most (valueFrom 0 text) (omega arith))
           ∙ sym (number ∙ at-most-within most (valueFrom 0 text) (omega arith))
 
-pub read-empty : (most : ℕ) (text : List ℕ) → length text ≡ 0 → NoNumber ≡ numberOf most text
+pub read-empty : (most : ℕ) (text : List ℕ) → length text ≡ 0 → NoNumber ≡ amountOf most text
 read-empty most [] h = refl
 read-empty most (b ∷ bs) h = absurd (omega arith)
 

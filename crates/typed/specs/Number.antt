@@ -33,8 +33,8 @@ abbrev pub atMost : ℕ → ℕ → Amount
 atMost most v = pick (ltb most v) TooLarge (Is v)
 
 -- digits and nothing else are a number
-abbrev pub numberOf : ℕ → List ℕ → Amount
-numberOf most text = pick (someDigits text) (atMost most (valueFrom 0 text)) NoNumber
+abbrev pub amountOf : ℕ → List ℕ → Amount
+amountOf most text = pick (someDigits text) (atMost most (valueFrom 0 text)) NoNumber
 
 abbrev pub sameText : List ℕ → List ℕ → Bool
 sameText [] [] = true

@@ -4,7 +4,7 @@ ghost use mathlib.Core.Path.{_≡_};
 ghost use mathlib.Core.Bool.{true};
 ghost use Prim.Native.Nat.{_+_, _*_, _-_, _^_, _<_};
 ghost use Rattle.instruction.specs.Word.{wordBytes};
-ghost use Rattle.typed.specs.Number.{between, isDigit, numberOf, sameText, capped};
+ghost use Rattle.typed.specs.Number.{between, isDigit, amountOf, sameText, capped};
 ghost use Rattle.typed.specs.Words.{isWhite, hexDigit, later, past, start, troubled, skipped, grown, onward, isPart, partedBy, digitOn, textOn, rawOn, closedOn, decimalDigitOn, decimalOn, byteAt, rawBytes, byteOn, CanGrow, Takes, TakesOne, troubleOf};
 use instruction::Instruction;
 
@@ -42,7 +42,7 @@ impl Amount {
 
 // The number that a text says, up to the most that is allowed.
 pub fn number(text: &[u8], most: u32) -> Amount
-    ensures { λ r. ⌜ r ≡ numberOf most (now (text .entry)) ⌝ }
+    ensures { λ r. ⌜ r ≡ amountOf most (now (text .entry)) ⌝ }
 {
     if text.len() == 0 {
         return Amount::NoNumber;
@@ -155,12 +155,6 @@ fn hex_digit(b: u8) -> u64
         return d as u64;
     }
     Taken::HEX
-}
-
-fn wide(x: u8) -> u64
-    ensures { λ r. ⌜ r ≡ x ⌝ }
-{
-    x as u64
 }
 
 impl Taken {
@@ -307,7 +301,11 @@ impl Taken {
         let digits = self.digits;
         let count = self.count;
         let place = self.place;
-        let value = self.grown(Taken::RAW_SPAN, Instruction::BYTE_SPAN, wide(b));
+        let value = self.grown(
+            Taken::RAW_SPAN,
+            Instruction::BYTE_SPAN,
+            Instruction::wide(b),
+        );
         if digits < Instruction::BYTES - 1 {
             return Taken::onward(count, value, digits + 1, place);
         }

@@ -21,7 +21,8 @@ use Rattle.flow.specs.Walk.{deepest, On, place, Reached, Fault, past, full, emp
 use Rattle.flow.proofs.Rules.{Leaps, goto-to, call-to, repeat-to, Walked, begin, on, over, back, walked, reached}
 use Rattle.flow.proofs.Bits.{two, zero-off, next-on, back-on, on-next}
 use Rattle.look.specs.Closed.{faultIn}
-use Rattle.walk.specs.Marks.{FirstFault, Exact, Returns}
+use Rattle.walk.specs.Marks.{Exact}
+use Rattle.walk.specs.Loops.{FirstFault, ReturnsIn}
 use Rattle.walk.proofs.Laws.{depth, backs-of, came-reached}
 use Rattle.instruction.specs.Bits.{_gives_else_}
 use Rattle.verdict.specs.Flow.{Targets}
@@ -139,7 +140,7 @@ jump-to goto-to = refl
 jump-to (call-to _) = refl
 jump-to repeat-to = refl
 
-module _ (lim : ℕ) (ws ms : List ℕ) (r z : ℕ) (ex : Exact lim ws ms) (rs : Returns ws ms (length ws) r) (ts : Targets ws) (end : z + 1 ≡ length ws) (small : lim ≤ deepest) where
+module _ (lim : ℕ) (ws ms : List ℕ) (r z : ℕ) (ex : Exact lim ws ms) (rs : ReturnsIn ws ms (length ws) r) (ts : Targets ws) (end : z + 1 ≡ length ws) (small : lim ≤ deepest) where
   narrow : {d : ℕ} → d ≤ lim → d ≤ deepest
   narrow l = omega arith
 

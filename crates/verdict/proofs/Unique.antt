@@ -17,7 +17,8 @@ use Rattle.flow.specs.declared.Move.the-variants.{Other, Compare, Jump, Enter, 
 use Rattle.flow.specs.Move.{moveAt}
 use Rattle.flow.specs.Walk.{deepest, On, place, Fault, past, full, empty}
 use Rattle.flow.proofs.Bits.{two, zero-off}
-use Rattle.walk.specs.Marks.{Exact, Returns, Depths, FirstFault}
+use Rattle.walk.specs.Marks.{Exact}
+use Rattle.walk.specs.Loops.{ReturnsIn, Depths, FirstFault}
 use Rattle.walk.proofs.Laws.{depth}
 use Rattle.flow.proofs.Rules.{walked}
 use Rattle.sequence.specs.Bounds.{stackDepth}
@@ -141,7 +142,7 @@ one-answer-check wave words marks {ns = ns} {os = os} (flow _ _ m f) (flow _ _ k
 -- ---- what the walk has seen
 
 module _ (lim : ℕ) (ws ms : List ℕ) where
-  back-bits : {r r′ : ℕ} → Exact lim ws ms → lim ≤ deepest → Returns ws ms (length ws) r → Depths r → Returns ws ms (length ws) r′ → (k : ℕ) → On k r → On k r′
+  back-bits : {r r′ : ℕ} → Exact lim ws ms → lim ≤ deepest → ReturnsIn ws ms (length ws) r → Depths r → ReturnsIn ws ms (length ws) r′ → (k : ℕ) → On k r → On k r′
   back-bits {r} {r′} ex s p e q k o = go (w .1) (w .2)
     where
       w : (d : ℕ) × (c : Bool) × (k ≡ place d c)
@@ -154,7 +155,7 @@ module _ (lim : ℕ) (ws ms : List ℕ) where
           let l : w .0 ≤ lim = depth (walked (ex .sound (x .0) (w .0) (x .1) (x .2) (x .4))) in
           subst (λ (i : ℕ). On i r′) (sym z) (q .whole (x .0) (w .0) (x .1) (omega arith) (x .2) (x .3) (x .4))
 
-  pub one-back : {r r′ : ℕ} → Exact lim ws ms → lim ≤ deepest → Returns ws ms (length ws) r → Depths r → Returns ws ms (length ws) r′ → Depths r′ → r ≡ r′
+  pub one-back : {r r′ : ℕ} → Exact lim ws ms → lim ≤ deepest → ReturnsIn ws ms (length ws) r → Depths r → ReturnsIn ws ms (length ws) r′ → Depths r′ → r ≡ r′
   one-back {r} {r′} ex s p e q f = same-bits r r′ (back-bits ex s p e q) (back-bits ex s q f p)
 
   not-below : {f f′ : ℕ} → FirstFault lim ws ms (length ws) f → FirstFault lim ws ms (length ws) f′ → f′ ≤ f

@@ -27,7 +27,7 @@ use Rattle.flow.specs.Masks.{toOf}
 use Rattle.flow.specs.Move.{moveOf, moveAt}
 use Rattle.verdict.specs.Flow.{Targets}
 use Rattle.verdict.specs.Words.{isEngineWord, isHigh, closes, leftOpen, standsRefused, refusedAs, wordRefusal, Passes}
-use Rattle.verdict.specs.Check.{inputRefused, WordsAre, passed, first}
+use Rattle.verdict.specs.Check.{checkInputRefused, WordsAre, passed, first}
 use Rattle.verdict.specs.declared.Verdict.{Verdict}
 
 -- ---- groups
@@ -168,19 +168,19 @@ targets wave words p all a l = target wave words a p (all a l)
 -- ---- the input
 
 module _ (n wave room : ℕ) where
-  pub input-lengths : (lengthsRefused n wave ≡ 0 → ⊥) → inputRefused n wave room ≡ lengthsRefused n wave
-  unfolding inputRefused
+  pub input-lengths : (lengthsRefused n wave ≡ 0 → ⊥) → checkInputRefused n wave room ≡ lengthsRefused n wave
+  unfolding checkInputRefused
   input-lengths h = rw (ne-eqb _ _ h)
 
-  pub input-short : lengthsRefused n wave ≡ 0 → room < n → inputRefused n wave room ≡ 4
-  unfolding inputRefused
+  pub input-short : lengthsRefused n wave ≡ 0 → room < n → checkInputRefused n wave room ≡ 4
+  unfolding checkInputRefused
   input-short h l = rw (h, lt-ltb room n l)
 
-  pub input-none : lengthsRefused n wave ≡ 0 → n ≤ room → inputRefused n wave room ≡ 0
-  unfolding inputRefused
+  pub input-none : lengthsRefused n wave ≡ 0 → n ≤ room → checkInputRefused n wave room ≡ 0
+  unfolding checkInputRefused
   input-none h l = rw (h, le-ltb room n l)
 
-  pub input-lengths-good : inputRefused n wave room ≡ 0 → lengthsRefused n wave ≡ 0
+  pub input-lengths-good : checkInputRefused n wave room ≡ 0 → lengthsRefused n wave ≡ 0
   input-lengths-good z = by (ℕ-discrete (lengthsRefused n wave) 0)
     where
       by : Dec (lengthsRefused n wave ≡ 0) → lengthsRefused n wave ≡ 0
@@ -199,7 +199,7 @@ module _ (n wave room : ℕ) where
       by (no h) = omega arith
 
   -- there is a word, and a mark for each
-  pub input-good : inputRefused n wave room ≡ 0 → (0 < n) × (n ≤ room)
+  pub input-good : checkInputRefused n wave room ≡ 0 → (0 < n) × (n ≤ room)
   input-good z = by (ℕ-discrete (lengthsRefused n wave) 0) (decLt room n)
     where
       by : Dec (lengthsRefused n wave ≡ 0) → Dec (room < n) → (0 < n) × (n ≤ room)

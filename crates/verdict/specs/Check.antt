@@ -16,11 +16,11 @@ use Rattle.verdict.specs.Words.{wordRefusal, Passes}
 use Rattle.verdict.specs.declared.Verdict.{Verdict}
 
 abbrev pub verdict : Refusal → ℕ → Verdict
-verdict refusal place = record { refusal = refusal; place = place }
+verdict refusal place = record { refusal = refusal; place = record { 0 = place } }
 
 -- 1, 2, 3, then "4 marks shorter than the words (check only)"; 0 where none is given
-unfoldable pub inputRefused : ℕ → ℕ → ℕ → ℕ
-inputRefused n wave room =
+unfoldable pub checkInputRefused : ℕ → ℕ → ℕ → ℕ
+checkInputRefused n wave room =
     not (eqb (lengthsRefused n wave) 0) gives lengthsRefused n wave
     else ltb room n gives 4
     else 0
@@ -32,7 +32,7 @@ pub data WordsAre (wave : ℕ) (words : List ℕ) : Verdict → Type 0 where
 
 -- "Marks are written only once all words pass, also when flow then refuses; longer marks keep their tail."
 pub data CheckIs (wave : ℕ) (words marks : List ℕ) : Verdict → List ℕ → Type 0 where
-  input : (inputRefused (length words) wave (length marks) ≡ 0 → ⊥) → CheckIs wave words marks (verdict (numbered (inputRefused (length words) wave (length marks))) 0) marks
-  word : {v : Verdict} → inputRefused (length words) wave (length marks) ≡ 0 → WordsAre wave words v → (v .refusal .number ≡ 0 → ⊥) → CheckIs wave words marks v marks
-  flow : {number place : ℕ} {ns : List ℕ} → inputRefused (length words) wave (length marks) ≡ 0 → ((a : ℕ) → a < length words → Passes wave words a)
+  input : (checkInputRefused (length words) wave (length marks) ≡ 0 → ⊥) → CheckIs wave words marks (verdict (numbered (checkInputRefused (length words) wave (length marks))) 0) marks
+  word : {v : Verdict} → checkInputRefused (length words) wave (length marks) ≡ 0 → WordsAre wave words v → (v .refusal .number ≡ 0 → ⊥) → CheckIs wave words marks v marks
+  flow : {number place : ℕ} {ns : List ℕ} → checkInputRefused (length words) wave (length marks) ≡ 0 → ((a : ℕ) → a < length words → Passes wave words a)
       → Marked stackDepth words marks ns → FlowIs stackDepth words number place → CheckIs wave words marks (verdict (numbered number) place) ns

@@ -6,8 +6,9 @@ use lib.ListN.{length}
 use Rattle.flow.specs.Masks.{toOf}
 use Rattle.flow.specs.Move.{moveAt}
 use Rattle.flow.specs.Walk.{Fault}
-use Rattle.look.specs.Closed.{Fits}
-use Rattle.walk.specs.Marks.{Exact, Returns, FirstFault}
+use Rattle.look.specs.Closed.{MarksFit}
+use Rattle.walk.specs.Marks.{Exact}
+use Rattle.walk.specs.Loops.{ReturnsIn, FirstFault}
 
 -- 0 at 0 where there is no fault, else the fault at the lowest address that has one
 pub data FlowIs (limit : ℕ) (words : List ℕ) : ℕ → ℕ → Type 0 where
@@ -22,9 +23,9 @@ Targets words = (a : ℕ) → a < length words → toOf (moveAt words a) < lengt
 
 -- exact marks, of words whose targets are words, with the depths r of their RETURNs and their first fault f
 pub record CanJudge (lim : ℕ) (ws ms : List ℕ) (r f : ℕ) : Type 0 where
-  pub fits : Fits ws ms 0 lim
+  pub fits : MarksFit ws ms 0 lim
   pub some : 0 < length ws
   pub targets : Targets ws
   pub exact : Exact lim ws ms
-  pub returns : Returns ws ms (length ws) r
+  pub returns : ReturnsIn ws ms (length ws) r
   pub fault : FirstFault lim ws ms (length ws) f

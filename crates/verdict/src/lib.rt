@@ -7,11 +7,13 @@ ghost use lib.ListN.{length, drop};
 ghost use Rattle.sequence.specs.Bounds.{groupSize};
 ghost use Rattle.verdict.specs.Flow.{FlowIs, CanJudge};
 ghost use Rattle.verdict.specs.Words.{isEngineWord, isHigh, closes, leftOpen, standsRefused, wordRefusal};
-ghost use Rattle.verdict.specs.Check.{inputRefused, WordsAre, CheckIs};
+ghost use Rattle.verdict.specs.Check.{checkInputRefused, WordsAre, CheckIs};
 use flow::Move;
 use flow::Moves;
 use instruction::Instruction;
+use instruction::QuadSamples;
 use instruction::Refusal;
+use instruction::WordAddress;
 use look::fault_of;
 use reader::instruction_in;
 use reader::refusal_of;
@@ -21,22 +23,22 @@ use walk::Seen;
 // A refusal and its place; number 0 at place 0 is accepted.
 pub struct Verdict {
     pub refusal: Refusal,
-    pub place: usize,
+    pub place: WordAddress,
 }
 
 // The verdict, of marks that are exact and of what the walk has seen.
-pub fn judge(words: &[u64], marks: &[u64], seen: Seen, limit: u64) -> Verdict
-    requires { ⌜ CanJudge limit (now words) (now marks) (seen .back) (seen .faulty) ⌝ }
-    ensures { λ r. ⌜ FlowIs limit (now (words .entry)) (r .refusal .number) (r .place) ⌝ }
+fn judge(words: &[u64], marks: &[u64], seen: Seen, limit: u64) -> Verdict
+    requires { ⌜ CanJudge limit (now words) (now marks) (seen .back) (seen .faulty .0) ⌝ }
+    ensures { λ r. ⌜ FlowIs limit (now (words .entry)) (r .refusal .number) (r .place .0) ⌝ }
 {
     let n = words.len();
-    let a = seen.faulty;
+    let a = seen.faulty.0 as usize;
     if a < n {
         return Verdict {
             refusal: Refusal {
                 number: fault_of(Move::at(words[a]), marks[a], limit),
             },
-            place: a,
+            place: WordAddress(a as u64),
         };
     }
     let e = n - 1;
@@ -47,12 +49,12 @@ pub fn judge(words: &[u64], marks: &[u64], seen: Seen, limit: u64) -> Verdict
             refusal: Refusal {
                 number: Sequence::PAST_THE_END,
             },
-            place: n,
+            place: WordAddress(n as u64),
         };
     }
     Verdict {
         refusal: Refusal { number: 0 },
-        place: 0,
+        place: WordAddress(0),
     }
 }
 
@@ -110,8 +112,8 @@ fn left_open(words: &[u64], above: usize, i: Instruction) -> bool
 }
 
 // 20, 21, 22 or 0, of an instruction with the words above it.
-fn stands_refused(words: &[u64], wave: u64, above: usize, i: Instruction) -> u64
-    ensures { λ r. ⌜ r ≡ standsRefused wave (length (now (words .entry))) (drop above (now (words .entry))) i ⌝ }
+fn stands_refused(words: &[u64], wave: QuadSamples, above: usize, i: Instruction) -> u64
+    ensures { λ r. ⌜ r ≡ standsRefused (wave .0) (length (now (words .entry))) (drop above (now (words .entry))) i ⌝ }
 {
     let body = i.body;
     let placing = Sequence::placing(wave, words.len() as u64, body);
@@ -125,9 +127,9 @@ fn stands_refused(words: &[u64], wave: u64, above: usize, i: Instruction) -> u64
 }
 
 // The refusal of the word at an address; number 0 passes.
-fn word_refusal(words: &[u64], wave: u64, a: usize) -> Refusal
+fn word_refusal(words: &[u64], wave: QuadSamples, a: usize) -> Refusal
     requires { ⌜ a < length (now words) ⌝ }
-    ensures { λ r. ⌜ r ≡ wordRefusal wave (now (words .entry)) a ⌝ }
+    ensures { λ r. ⌜ r ≡ wordRefusal (wave .0) (now (words .entry)) a ⌝ }
 {
     let word = words[a];
     let refusal = refusal_of(word);
@@ -140,26 +142,29 @@ fn word_refusal(words: &[u64], wave: u64, a: usize) -> Refusal
 }
 
 // The first word that is refused.
-fn judge_words(words: &[u64], wave: u64) -> Verdict
-    ensures { λ r. ⌜ WordsAre wave (now (words .entry)) r ⌝ }
+fn judge_words(words: &[u64], wave: QuadSamples) -> Verdict
+    ensures { λ r. ⌜ WordsAre (wave .0) (now (words .entry)) r ⌝ }
 {
     let mut a: usize = 0;
     while a < words.len() {
         let refusal = word_refusal(words, wave, a);
         if refusal.number != 0 {
-            return Verdict { refusal, place: a };
+            return Verdict {
+                refusal,
+                place: WordAddress(a as u64),
+            };
         }
         a += 1;
     }
     Verdict {
         refusal: Refusal { number: 0 },
-        place: 0,
+        place: WordAddress(0),
     }
 }
 
 // 1 to 4 or 0, for n words, a waveform memory and room for marks.
-fn input_refused(n: u64, wave: u64, room: u64) -> u64
-    ensures { λ r. ⌜ r ≡ inputRefused n wave room ⌝ }
+fn input_refused(n: u64, wave: QuadSamples, room: u64) -> u64
+    ensures { λ r. ⌜ r ≡ checkInputRefused n (wave .0) room ⌝ }
 {
     let lengths = Sequence::lengths_refused(n, wave);
     if lengths != 0 {
@@ -172,14 +177,14 @@ fn input_refused(n: u64, wave: u64, room: u64) -> u64
 }
 
 // Check.
-pub fn check(words: &[u64], wave: u64, marks: &mut [u64]) -> Verdict
-    ensures { λ r. ⌜ CheckIs wave (now (words .entry)) (now (marks .entry)) r (now (marks .exit)) ⌝ }
+pub fn check(words: &[u64], wave: QuadSamples, marks: &mut [u64]) -> Verdict
+    ensures { λ r. ⌜ CheckIs (wave .0) (now (words .entry)) (now (marks .entry)) r (now (marks .exit)) ⌝ }
 {
     let input = input_refused(words.len() as u64, wave, marks.len() as u64);
     if input != 0 {
         return Verdict {
             refusal: Refusal { number: input },
-            place: 0,
+            place: WordAddress(0),
         };
     }
     let v = judge_words(words, wave);

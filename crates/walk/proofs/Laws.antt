@@ -23,7 +23,8 @@ use Rattle.flow.proofs.Rules.{Onward, plain-on, cmp-on, goto-on, call-on, retur
 use Rattle.flow.proofs.Bits.{or-left, or-right, or-on, zero-off, high-off, on-bare, bare-on, bare-odd, next-on, back-on, jump-on, Came, stepped, returned, on-next, Leapt, leapt, on-jump}
 use Rattle.look.specs.Closed.{HoldsAt, ClosedAt, backIn}
 use Rattle.look.proofs.Laws.{held-zero, or-zero}
-use Rattle.walk.specs.Marks.{Depths, UncleanIs, FirstFault, Settled, Exact, Sound, Backs, left, rest, Put, same, more, Grew, Turned, moved, still, Returns, Cleared, Part, Ahead, Visits, VisitDone, TurnIs, onward, hint, ended, Room, NoteDone, FollowDone, Since, fresh, since, AtHand, OpenIs, closed, first, load}
+use Rattle.walk.specs.Marks.{Exact}
+use Rattle.walk.specs.Loops.{Depths, UncleanIs, FirstFault, Settled, Sound, Backs, left, rest, Placed, same, more, Grew, Turned, moved, still, ReturnsIn, Cleared, Part, Ahead, Visits, VisitDone, TurnIs, onward, hint, ended, Room, NoteDone, FollowDone, Since, fresh, since, AtHand, OpenIs, closed, first, load}
 use Rattle.walk.specs.declared.Trail.{Trail}
 use Rattle.sequence.specs.Bounds.{wordLimit}
 
@@ -84,7 +85,7 @@ grew-trans g h =
       depths = λ e. h .depths (g .depths e);
     }
 
-grew-put : (lim : ℕ) (ws : List ℕ) (r : ℕ) (ms : List ℕ) (i x : ℕ) {ns : List ℕ} {v : ℕ} → Put (length ws) ms i x ns v → length ws ≤ length ms
+grew-put : (lim : ℕ) (ws : List ℕ) (r : ℕ) (ms : List ℕ) (i x : ℕ) {ns : List ℕ} {v : ℕ} → Placed (length ws) ms i x ns v → length ws ≤ length ms
     → (Backs lim ws r → Sound lim ws ms → (d : ℕ) (c : Bool) → On (place d c) x → Reached lim ws i d c)
     → Grew lim ws r ms r ns
 grew-put lim ws r ms i x (same _) l new = grew-refl lim ws r ms
@@ -101,21 +102,21 @@ grew-put lim ws r ms i x (more h u f) l new =
     }
 
 -- a bit that was set lowers what is left
-pub put-left : (n : ℕ) (ms : List ℕ) (i x : ℕ) {ns : List ℕ} {v : ℕ} → n ≤ length ms → Put n ms i x ns v → (v ≡ 0 → ⊥) → left ns < left ms
+pub put-left : (n : ℕ) (ms : List ℕ) (i x : ℕ) {ns : List ℕ} {v : ℕ} → n ≤ length ms → Placed n ms i x ns v → (v ≡ 0 → ⊥) → left ns < left ms
 put-left n ms i x l (same h) z = absurd (z refl)
 put-left n ms i x l (more h u f) z = left-set-lt ms i (bitOr (getD ms i 0) x) (omega arith) u f
 
 -- the address is then below n, and has the mark that was given back
-put-at : (n : ℕ) (ms : List ℕ) (i x : ℕ) {ns : List ℕ} {v : ℕ} → n ≤ length ms → Put n ms i x ns v → (v ≡ 0 → ⊥) → (i < n) × (getD ns i 0 ≡ v)
+put-at : (n : ℕ) (ms : List ℕ) (i x : ℕ) {ns : List ℕ} {v : ℕ} → n ≤ length ms → Placed n ms i x ns v → (v ≡ 0 → ⊥) → (i < n) × (getD ns i 0 ≡ v)
 put-at n ms i x l (same h) z = absurd (z refl)
 put-at n ms i x l (more h u f) z = (h, getD-set-same ms i (bitOr (getD ms i 0) x) 0 (omega arith))
 
-pub put-less : (n : ℕ) (ms : List ℕ) (i x : ℕ) {ns : List ℕ} {v : ℕ} → Put n ms i x ns v → left ns ≤ left ms
+pub put-less : (n : ℕ) (ms : List ℕ) (i x : ℕ) {ns : List ℕ} {v : ℕ} → Placed n ms i x ns v → left ns ≤ left ms
 put-less n ms i x (same h) = le-refl (left ms)
 put-less n ms i x (more h u f) = left-set ms i (bitOr (getD ms i 0) x) (omega arith)
 
 -- where none was set, nothing was put, and the bits are held
-put-none : (n : ℕ) (ms : List ℕ) (i x : ℕ) {ns : List ℕ} {v : ℕ} → Put n ms i x ns v → v ≡ 0 → (ns ≡ ms) × HoldsAt n ms i x
+put-none : (n : ℕ) (ms : List ℕ) (i x : ℕ) {ns : List ℕ} {v : ℕ} → Placed n ms i x ns v → v ≡ 0 → (ns ≡ ms) × HoldsAt n ms i x
 put-none n ms i x (same h) z = (refl, h)
 put-none n ms i x (more h u f) z = absurd (omega arith)
 
@@ -129,7 +130,7 @@ back-in (Enter t) m d p = zero-off (2 * d) p
 back-in Leave m d p = (refl, bare-on d m p)
 back-in (Loop t) m d p = zero-off (2 * d) p
 
-pub backs-of : (lim : ℕ) (ws ms : List ℕ) (r : ℕ) → Sound lim ws ms → Returns ws ms (length ws) r → Backs lim ws r
+pub backs-of : (lim : ℕ) (ws ms : List ℕ) (r : ℕ) → Sound lim ws ms → ReturnsIn ws ms (length ws) r → Backs lim ws r
 backs-of lim ws ms r s g d p = let w = g .from d p in (w .0, w .1, w .2, w .3, s (w .0) d (w .1) (w .2) (w .4))
 
 -- ---- a visit
@@ -183,12 +184,12 @@ module _ (lim : ℕ) (ws : List ℕ) (r : ℕ) (ms : List ℕ) (a m : ℕ) (fit 
       let e : r ≤ met = or-up r (backIn (moveAt ws a) m) in
       record { long = refl; less = omega arith; kept = λ b k p. p; tail = λ b h. refl; sound = λ b s. s; backs = λ b s. backs-more lim ws r ms a m l sub b s; depths = λ e. depths-more (moveAt ws a) m r e }
 
-  onto-next : {ns : List ℕ} {v : ℕ} → Put (length ws) ms (a + 1) (nextOf (moveAt ws a) m met) ns v → Grew lim ws met ms met ns
+  onto-next : {ns : List ℕ} {v : ℕ} → Placed (length ws) ms (a + 1) (nextOf (moveAt ws a) m met) ns v → Grew lim ws met ms met ns
   onto-next p =
       grew-put lim ws met ms (a + 1) (nextOf (moveAt ws a) m met) p fit
       (λ b s e h q. came-reached lim ws met ms a m l sub b s e h (on-next (moveAt ws a) m met e h q))
 
-  onto-target : {ns os : List ℕ} {v : ℕ} → Grew lim ws met ms met ns → Put (length ws) ns (toOf (moveAt ws a)) (jumpOf lim (moveAt ws a) m) os v → Grew lim ws met ns met os
+  onto-target : {ns os : List ℕ} {v : ℕ} → Grew lim ws met ms met ns → Placed (length ws) ns (toOf (moveAt ws a)) (jumpOf lim (moveAt ws a) m) os v → Grew lim ws met ns met os
   onto-target {ns} {os} g p =
       let e : length ns ≡ length ms = g .long in
       grew-put lim ws met ns (toOf (moveAt ws a)) (jumpOf lim (moveAt ws a) m) p (omega arith)
@@ -197,7 +198,7 @@ module _ (lim : ℕ) (ws : List ℕ) (r : ℕ) (ms : List ℕ) (a m : ℕ) (fit 
 -- a visit of a mark that is whole set a bit, or found its address closed
 visit-turned : (lim : ℕ) (ws : List ℕ) (r : ℕ) (ms : List ℕ) (a q : ℕ) {ns os : List ℕ} {v w : ℕ} → length ws ≤ length ms → length ns ≡ length ms → ((q ≡ r → ⊥) → 2 ^ 64 - q < 2 ^ 64 - r)
     → q ≡ bitOr r (backIn (moveAt ws a) (getD ms a 0))
-    → Put (length ws) ms (a + 1) (nextOf (moveAt ws a) (getD ms a 0) q) ns v → Put (length ws) ns (toOf (moveAt ws a)) (jumpOf lim (moveAt ws a) (getD ms a 0)) os w
+    → Placed (length ws) ms (a + 1) (nextOf (moveAt ws a) (getD ms a 0) q) ns v → Placed (length ws) ns (toOf (moveAt ws a)) (jumpOf lim (moveAt ws a) (getD ms a 0)) os w
     → Grew lim ws q ms q ns → Grew lim ws q ns q os → Turned lim ws r ms q os a
 visit-turned lim ws r ms a q {ns} {os} {v} {w} fit long rose eq p j g h = onBack (ℕ-discrete q r)
   where
@@ -239,7 +240,7 @@ visit-turned lim ws r ms a q {ns} {os} {v} {w} fit long rose eq p j g h = onBack
 
 pub visit-law : (lim : ℕ) (ws : List ℕ) (r : ℕ) (ms : List ℕ) (a m q x y t : ℕ) {ns os : List ℕ} {v w : ℕ} → length ws ≤ length ms → a < length ws → Part ms a m → ((q ≡ r → ⊥) → 2 ^ 64 - q < 2 ^ 64 - r)
     → q ≡ bitOr r (backIn (moveAt ws a) m) → x ≡ nextOf (moveAt ws a) m q → y ≡ jumpOf lim (moveAt ws a) m → t ≡ toOf (moveAt ws a)
-    → Put (length ws) ms (a + 1) x ns v → Put (length ws) ns t y os w
+    → Placed (length ws) ms (a + 1) x ns v → Placed (length ws) ns t y os w
     → Visits lim ws r ms a m q os v t w
 visit-law lim ws r ms a m q x y t {ns} {os} {v} {w} fit l sub rose eq ex ey et p j =
     record { grew = grew-trans (grew-trans g₀ g) h; turned = whole; next = next; jump = jump }
@@ -247,27 +248,27 @@ visit-law lim ws r ms a m q x y t {ns} {os} {v} {w} fit l sub rose eq ex ey et p
     o : Move
     o = moveAt ws a
 
-    p′ : Put (length ws) ms (a + 1) (nextOf o m q) ns v
-    p′ = subst (λ (z : ℕ). Put (length ws) ms (a + 1) z ns v) ex p
+    p′ : Placed (length ws) ms (a + 1) (nextOf o m q) ns v
+    p′ = subst (λ (z : ℕ). Placed (length ws) ms (a + 1) z ns v) ex p
 
-    j′ : Put (length ws) ns (toOf o) (jumpOf lim o m) os w
-    j′ = subst (λ (z : ℕ). Put (length ws) ns z (jumpOf lim o m) os w) et (subst (λ (z : ℕ). Put (length ws) ns t z os w) ey j)
+    j′ : Placed (length ws) ns (toOf o) (jumpOf lim o m) os w
+    j′ = subst (λ (z : ℕ). Placed (length ws) ns z (jumpOf lim o m) os w) et (subst (λ (z : ℕ). Placed (length ws) ns t z os w) ey j)
 
     g₀ : Grew lim ws r ms q ms
     g₀ = subst (λ (z : ℕ). Grew lim ws r ms z ms) (sym eq) (noted lim ws r ms a m fit l sub)
 
     g : Grew lim ws q ms q ns
-    g = subst (λ (z : ℕ). Put (length ws) ms (a + 1) (nextOf o m z) ns v → Grew lim ws z ms z ns) (sym eq) (onto-next lim ws r ms a m fit l sub) p′
+    g = subst (λ (z : ℕ). Placed (length ws) ms (a + 1) (nextOf o m z) ns v → Grew lim ws z ms z ns) (sym eq) (onto-next lim ws r ms a m fit l sub) p′
 
     h : Grew lim ws q ns q os
-    h = subst (λ (z : ℕ). Grew lim ws z ms z ns → Put (length ws) ns (toOf o) (jumpOf lim o m) os w → Grew lim ws z ns z os) (sym eq) (onto-target lim ws r ms a m fit l sub) g j′
+    h = subst (λ (z : ℕ). Grew lim ws z ms z ns → Placed (length ws) ns (toOf o) (jumpOf lim o m) os w → Grew lim ws z ns z os) (sym eq) (onto-target lim ws r ms a m fit l sub) g j′
 
     whole : m ≡ getD ms a 0 → Turned lim ws r ms q os a
     whole e =
         visit-turned lim ws r ms a q fit (g .long) rose
         (subst (λ (z : ℕ). q ≡ bitOr r (backIn o z)) e eq)
-        (subst (λ (z : ℕ). Put (length ws) ms (a + 1) (nextOf o z q) ns v) e p′)
-        (subst (λ (z : ℕ). Put (length ws) ns (toOf o) (jumpOf lim o z) os w) e j′)
+        (subst (λ (z : ℕ). Placed (length ws) ms (a + 1) (nextOf o z q) ns v) e p′)
+        (subst (λ (z : ℕ). Placed (length ws) ns (toOf o) (jumpOf lim o z) os w) e j′)
         g
         h
 
@@ -291,7 +292,7 @@ visit-law lim ws r ms a m q x y t {ns} {os} {v} {w} fit l sub rose eq ex ey et p
 
 -- a word that goes on to the next address puts its mark there
 pub visit-plain : (lim : ℕ) (ws : List ℕ) (r : ℕ) (ms : List ℕ) (a m : ℕ) {ns : List ℕ} {v : ℕ} → length ws ≤ length ms → a < length ws → Part ms a m → moveAt ws a ≡ Other
-    → Put (length ws) ms (a + 1) m ns v → Visits lim ws r ms a m r ns v 0 0
+    → Placed (length ws) ms (a + 1) m ns v → Visits lim ws r ms a m r ns v 0 0
 visit-plain lim ws r ms a m {ns} fit l sub e p =
     visit-law lim ws r ms a m r m 0 0 fit l sub (λ z. absurd (z refl))
     (sym (or-zero r) ∙ ap (λ (z : Move). bitOr r (backIn z m)) (sym e))
@@ -426,7 +427,7 @@ open-moves (first l o) h (moved m) = m
 open-moves (first l o) h (still k) = absurd (o k)
 
 -- the depths of RETURN that are known are those that are marked
-known-returns : (lim : ℕ) (ws : List ℕ) (r : ℕ) (ms : List ℕ) → Exact lim ws ms → Backs lim ws r → ((k : ℕ) → k < length ws → ClosedAt lim ws r ms k) → Returns ws ms (length ws) r
+known-returns : (lim : ℕ) (ws : List ℕ) (r : ℕ) (ms : List ℕ) → Exact lim ws ms → Backs lim ws r → ((k : ℕ) → k < length ws → ClosedAt lim ws r ms k) → ReturnsIn ws ms (length ws) r
 known-returns lim ws r ms ex bs cl = record { from = from; whole = whole }
   where
     from : (d : ℕ) → On (2 * d) r → (a : ℕ) × (c : Bool) × (a < length ws) × (moveAt ws a ≡ Leave) × On (place d c) (getD ms a 0)

@@ -3,8 +3,8 @@
 ghost use Prim.Native.Nat.{_≤_, _<_};
 ghost use lib.ListN.{length};
 ghost use Rattle.sequence.specs.Bounds.{wordLimit};
-ghost use Rattle.look.specs.Closed.{Fits};
-ghost use Rattle.walk.specs.Marks.{Cleared, Room, NoteDone, Put, LeapDone, CanVisit, VisitDone, TurnIs, FollowDone, UncleanIs, OpenIs, CanSettle, Settled};
+ghost use Rattle.look.specs.Closed.{MarksFit};
+ghost use Rattle.walk.specs.Loops.{Cleared, Room, NoteDone, Placed, LeapDone, CanVisit, VisitDone, TurnIs, FollowDone, UncleanIs, OpenIs, CanSettle, Settled};
 use flow::Mark;
 use flow::Move;
 use flow::Moves;
@@ -38,7 +38,7 @@ pub struct Look {
 // What the walk has seen: the depths at which a RETURN is marked, and the first address that faults, or n.
 pub struct Seen {
     pub back: u64,
-    pub faulty: usize,
+    pub faulty: WordAddress,
 }
 
 // A hint that an address is worth a visit. It may be dropped.
@@ -212,7 +212,7 @@ fn note(
 // Bits put at an address, where it is below n: its mark where that set one, else 0.
 fn put(n: usize, marks: &mut [u64], at: usize, x: u64) -> u64
     requires { ⌜ n ≤ length (now marks) ⌝ }
-    ensures { λ r. ⌜ Put n (now (marks .entry)) at x (now (marks .exit)) r ⌝ }
+    ensures { λ r. ⌜ Placed n (now (marks .entry)) at x (now (marks .exit)) r ⌝ }
 {
     if n <= at {
         return 0;
@@ -229,7 +229,7 @@ fn put(n: usize, marks: &mut [u64], at: usize, x: u64) -> u64
 // Bits put at a target, where there are any: its mark where that set one, else 0.
 fn put_there(n: usize, marks: &mut [u64], to: usize, x: u64) -> u64
     requires { ⌜ n ≤ length (now marks) ⌝ }
-    ensures { λ r. ⌜ Put n (now (marks .entry)) to x (now (marks .exit)) r ⌝ }
+    ensures { λ r. ⌜ Placed n (now (marks .entry)) to x (now (marks .exit)) r ⌝ }
 {
     if x == 0 {
         return 0;
@@ -275,7 +275,7 @@ fn branch(
     let next = a + 1;
     let t = note(marks, stack, known, calls, s, o);
     let f = Moves::of(o, s.mark, t.back, limit);
-    let to = f.to as usize;
+    let to = f.to.0 as usize;
     let mark = put(n, marks, next, f.next);
     if mark == 0 {
         let there = put_there(n, marks, to, f.jump);
@@ -411,7 +411,7 @@ fn follow(
 
 // The first address that leads to what is not marked or that faults, or n.
 fn first_unclean(words: &[u64], marks: &[u64], back: u64, limit: u64) -> usize
-    requires { ⌜ Fits (now words) (now marks) 0 limit ⌝ }
+    requires { ⌜ MarksFit (now words) (now marks) 0 limit ⌝ }
     ensures { λ r. ⌜ UncleanIs limit (now (words .entry)) back (now (marks .entry)) r ⌝ }
 {
     let n = words.len();
@@ -427,7 +427,7 @@ fn first_unclean(words: &[u64], marks: &[u64], back: u64, limit: u64) -> usize
 
 // A look at every address: the first that leads to what is not marked, or n; and where that is n, the first that faults, or n.
 fn look_over(words: &[u64], marks: &[u64], back: u64, limit: u64) -> Look
-    requires { ⌜ Fits (now words) (now marks) 0 limit ⌝ }
+    requires { ⌜ MarksFit (now words) (now marks) 0 limit ⌝ }
     ensures { λ r. ⌜ OpenIs limit (now (words .entry)) back (now (marks .entry)) (r .open) (r .faulty) ⌝ }
 {
     let n = words.len();
@@ -445,7 +445,7 @@ fn look_over(words: &[u64], marks: &[u64], back: u64, limit: u64) -> Look
 // From marks that are sound and hold the start to the least set.
 fn settle(words: &[u64], marks: &mut [u64], limit: u64) -> Seen
     requires { ⌜ CanSettle limit (now words) (now marks) ⌝ }
-    ensures { λ r. ⌜ Settled limit (now (words .entry)) (now (marks .entry)) (now (marks .exit)) (r .back) (r .faulty) ⌝ }
+    ensures { λ r. ⌜ Settled limit (now (words .entry)) (now (marks .entry)) (now (marks .exit)) (r .back) (r .faulty .0) ⌝ }
 {
     let mut stack = [0u16; Sequence::WORDS as usize];
     let mut known = [0u8; Sequence::WORDS as usize];
@@ -477,7 +477,7 @@ fn settle(words: &[u64], marks: &mut [u64], limit: u64) -> Seen
     }
     Seen {
         back: s.back,
-        faulty: l.faulty,
+        faulty: WordAddress(l.faulty as u64),
     }
 }
 
@@ -495,8 +495,8 @@ fn clear(marks: &mut [u64], n: usize)
 
 // The marks of the walk.
 pub fn walk(words: &[u64], marks: &mut [u64], limit: u64) -> Seen
-    requires { ⌜ Fits (now words) (now marks) 0 limit × (0 < length (now words)) ⌝ }
-    ensures { λ r. ⌜ Settled limit (now (words .entry)) (now (marks .entry)) (now (marks .exit)) (r .back) (r .faulty) ⌝ }
+    requires { ⌜ MarksFit (now words) (now marks) 0 limit × (0 < length (now words)) ⌝ }
+    ensures { λ r. ⌜ Settled limit (now (words .entry)) (now (marks .entry)) (now (marks .exit)) (r .back) (r .faulty .0) ⌝ }
 {
     clear(marks, words.len());
     marks[0] = 1;

@@ -11,7 +11,7 @@ same-length : tie.Need-same-length
 same-length c = search needs
 
 returns : tie.Need-returns
-returns c = let k = c .before .before .before .check in record { at = k .result .place; place = refl; verdict = k .ensures }
+returns c = let k = c .before .before .before .check in record { at = k .result .place .0; place = refl; verdict = k .ensures }
 
 pub aps2-check-spec : {M : Type 1} → statement M
 aps2-check-spec = tie.close (tie.spec check-requires same-length returns)

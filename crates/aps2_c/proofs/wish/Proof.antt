@@ -7,7 +7,7 @@ use denote.Ref.{now}
 use lib.ListN.{getD, length}
 use Rattle.instruction.specs.declared.Body.{Body}
 use Rattle.writer.specs.Writing.{writtenOf}
-use Rattle.aps2_c.specs.Fields.{shownOf, filledPast, valuesAsked, asked}
+use Rattle.aps2_c.specs.Fields.{numbersOf, filledPast, valuesAsked, asked}
 use Rattle.aps2_c.proofs.Laws.{wish-past, wish-name, wish-none, wish-wide}
 use borrow.Author.Needs.{needs}
 use Rattle.aps2_c.proofs.wish.Statement.{statement}
@@ -26,9 +26,9 @@ element-copy-out-flag c = search needs
 abbrev fieldsAt : tie.After-filled-past → List ℕ
 fieldsAt d = now (d .before .before .before .before .before .before .args .fields)
 
-past : (d : tie.After-filled-past) → filledPast false (length (shownOf (asked (fieldsAt d) .body))) 0 (valuesAsked (fieldsAt d)) ≡ d .filled-past .result
+past : (d : tie.After-filled-past) → filledPast false (length (numbersOf (asked (fieldsAt d) .body))) 0 (valuesAsked (fieldsAt d)) ≡ d .filled-past .result
 past d =
-    let n = d .before .shown-count .ensures ∙ ap (λ (b : Body). length (shownOf b)) (d .before .before .body-of .ensures) in
+    let n = d .before .shown-count .ensures ∙ ap (λ (b : Body). length (numbersOf b)) (d .before .before .body-of .ensures) in
     ap (λ (k : ℕ). filledPast false k 0 (valuesAsked (fieldsAt d))) (sym n) ∙ sym (d .filled-past .ensures)
 
 body-of-requires : tie.Need-body-of-requires

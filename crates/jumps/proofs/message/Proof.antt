@@ -38,7 +38,7 @@ returns-2 c =
     λ rs cs ws ts.
     let a = c .before .before .before .before .before .before .args in
     rw (message-taken (now (a .messages)) (stateOf (a .s) rs cs ws ts) (c .before .before .before .before .if1 .left))
-    (moved-done (c .moves .ensures ∙ ap (stopped 0) (c .before .takes .ensures ∙ ap (λ (m : ℕ). nexts (withMessage (a .s .used + 1) m (a .s))) (c .before .before .wide .ensures))))
+    (moved-done (c .moves .ensures ∙ ap (stopped 0) (c .before .takes .ensures ∙ ap (λ (m : ℕ). nexts (withMessage (a .s .used + 1) m (a .s))) (c .before .before .wide .ensures .0))))
 
 pub message-spec : {M : Type 1} → statement M
 message-spec =

@@ -7,7 +7,8 @@ use Rattle.instruction.specs.Table.{isNoop}
 use Rattle.buffer.specs.Put.{Fits, Put}
 use Rattle.buffer.proofs.Laws.{fits-first, fits-next, puts-both}
 use Rattle.page.specs.Text.{number, letters, decimal, tab, restText}
-use Rattle.listing.specs.Listing.{nameOf, shownOf}
+use Rattle.names.specs.Names.{nameOf}
+use Rattle.listing.specs.Listing.{shownOf}
 use Rattle.listing.proofs.Lines.{noop-line, other-line}
 use borrow.Author.Needs.{needs}
 use Rattle.listing.proofs.put_instruction.Statement.{statement}

@@ -55,7 +55,7 @@ returns-3 c =
     let a = c .before .before .before .before .before .before .before .before .before .before .before .before .before .args in
     rw (out-sent (fixedBy (now (a .words)) ms (length (now (a .trace))) (a .setting)) (stateOf (a .s) rs cs (now (a .waits)) (now (a .totals))) (a .write) (a .body) (c .before .before .before .before .before .before .before .before .before .before .before .before .before .pre .1)
     (sym (c .before .before .before .before .before .before .before .before .before .awaits-trigger .ensures) ∙ c .before .before .before .before .before .before .before .before .if1 .left) (ap (λ (b : Bool). b && eqb (a .write) 0) (sym (c .before .before .before .before .before .before .before .is-engine .ensures)) ∙ c .before .before .before .before .before .before .if2 .left))
-    (c .before .before .send .ensures ms rs cs (a .setting))
+    (c .before .before .send .ensures (a .setting) ms rs cs)
 
 pub outward-spec : {M : Type 1} → statement M
 outward-spec =

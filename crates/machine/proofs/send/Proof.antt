@@ -25,7 +25,7 @@ stop-requires c κs = search needs
 
 returns : tie.Need-returns
 returns c =
-    λ ms rs cs setting.
+    λ setting ms rs cs.
     let a = c .before .before .before .before .args in
     let t = now (a .trace) in
     rw (send-full (fixedBy (now (a .words)) ms (length t) setting) (stateOf (a .s) rs cs (now (a .waits)) (now (a .totals))) (c .before .if1 .taken))
@@ -50,7 +50,7 @@ same-length c = search needs
 
 returns-2 : tie.Need-returns-2
 returns-2 c =
-    λ ms rs cs setting.
+    λ setting ms rs cs.
     let a = c .before .before .before .before .before .before .before .before .before .before .before .before .args in
     let d = c .before .before .before .before .dispatch .ensures in
     let x = c .moves .ensures ∙ ap (stopped 0) (c .before .sends .ensures) in

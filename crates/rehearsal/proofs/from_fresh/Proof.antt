@@ -2,7 +2,8 @@
 use mathlib.Core.Path.{sym, subst}
 use denote.Ref.{now}
 use lib.ListN.{length, replicate}
-use Rattle.jumps.specs.State.{Fixed, fixedBy, stateOf, Traced}
+use Rattle.jumps.specs.State.{Fixed, fixedBy, stateOf}
+use Rattle.jumps.specs.Lent.{Traced}
 use Rattle.jumps.specs.declared.Core.{Core}
 use Rattle.rehearsal.specs.Run.{CanGo, runOf}
 use Rattle.rehearsal.proofs.Runs.{rehearsed}

@@ -37,7 +37,7 @@ returns c =
     let lim = s .args .limit in
     let ws = s .args .words .now in
     let ms = s .args .marks .now in
-    let a = s .args .seen .faulty in
+    let a = s .args .seen .faulty .0 in
     let l : a < length ws = c .before .before .before .before .if1 .taken in
     let e = c .fault-of .ensures ∙ ap (λ (z : Move). faultIn lim z (getD ms a 0)) (c .before .before .at .ensures) in
     faulty

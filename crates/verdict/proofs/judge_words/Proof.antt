@@ -11,7 +11,7 @@ use Rattle.verdict.proofs.judge_words.Statement.{statement}
 use Rattle.verdict.proofs.judge_words.Tie as tie
 
 abbrev Inv-loop : tie.InvT-loop
-Inv-loop words wave a₀ a = (a ≤ length words) × ((b : ℕ) → b < a → Passes wave words b)
+Inv-loop words wave a₀ a = (a ≤ length words) × ((b : ℕ) → b < a → Passes (wave .0) words b)
 
 abbrev μ-loop : tie.MeasureT-loop
 μ-loop words wave a₀ a = length words - a
@@ -26,7 +26,7 @@ returns : tie.Need-returns Inv-loop μ-loop
 returns c =
     let l = c .before .before .before .before .loop in
     let s = c .before .before .before .before .before .before .args in
-    subst (λ (r : Refusal). WordsAre (s .wave) (s .words .now) (verdict r (l .a))) (sym (c .before .before .word-refusal .ensures))
+    subst (λ (r : Refusal). WordsAre (s .wave .0) (s .words .now) (verdict r (l .a))) (sym (c .before .before .word-refusal .ensures))
     (first (c .before .before .before .loop-test .taken) (l .inv .1) (λ z. c .if1 .taken (ap (λ (r : Refusal). r .number) (c .before .before .word-refusal .ensures) ∙ z)))
 
 add-a : tie.Need-add-a Inv-loop μ-loop
@@ -39,7 +39,7 @@ loop-again : tie.Need-loop-again Inv-loop μ-loop
 loop-again c =
     let l = c .before .before .before .before .loop in
     let s = c .before .before .before .before .before .before .args in
-    (omega arith, passes-more (s .wave) (s .words .now) (l .a) (l .inv .1) (sym (ap (λ (r : Refusal). r .number) (c .before .before .word-refusal .ensures)) ∙ c .if1 .left))
+    (omega arith, passes-more (s .wave .0) (s .words .now) (l .a) (l .inv .1) (sym (ap (λ (r : Refusal). r .number) (c .before .before .word-refusal .ensures)) ∙ c .if1 .left))
 
 returns-2 : tie.Need-returns-2 Inv-loop μ-loop
 returns-2 c =

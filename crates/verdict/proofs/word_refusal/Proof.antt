@@ -22,7 +22,7 @@ refusal-of-requires : tie.Need-refusal-of-requires
 refusal-of-requires c κs = search needs
 
 returns : tie.Need-returns
-returns c = c .before .before .refusal-of .ensures ∙ sym (refusal-at (c .before .before .before .before .before .args .wave) (c .before .before .before .before .before .args .words .now) (c .before .before .before .before .before .args .a) (sym (refuses-whole (getD (c .before .before .before .before .before .args .words .now) (c .before .before .before .before .before .args .a) 0) (λ z. c .if1 .taken (ap (λ (r : Refusal). r .number) (c .before .before .refusal-of .ensures) ∙ z)))))
+returns c = c .before .before .refusal-of .ensures ∙ sym (refusal-at (c .before .before .before .before .before .args .wave .0) (c .before .before .before .before .before .args .words .now) (c .before .before .before .before .before .args .a) (sym (refuses-whole (getD (c .before .before .before .before .before .args .words .now) (c .before .before .before .before .before .args .a) 0) (λ z. c .if1 .taken (ap (λ (r : Refusal). r .number) (c .before .before .refusal-of .ensures) ∙ z)))))
 
 add-stands-refused : tie.Need-add-stands-refused
 add-stands-refused c = search needs
@@ -34,7 +34,7 @@ stands-refused-requires : tie.Need-stands-refused-requires
 stands-refused-requires c κs = search needs
 
 returns-2 : tie.Need-returns-2
-returns-2 c = ap numbered (c .stands-refused .ensures ∙ ap (λ (i : Instruction). standsRefused (c .before .before .before .before .before .before .before .args .wave) (length (c .before .before .before .before .before .before .before .args .words .now)) (drop (c .before .before .before .before .before .before .before .args .a + 1) (c .before .before .before .before .before .before .before .args .words .now)) i) (c .before .instruction-in .ensures)) ∙ sym (refusal-at (c .before .before .before .before .before .before .before .args .wave) (c .before .before .before .before .before .before .before .args .words .now) (c .before .before .before .before .before .before .before .args .a) (sym (reads-instruction (getD (c .before .before .before .before .before .before .before .args .words .now) (c .before .before .before .before .before .before .before .args .a) 0) (sym (ap (λ (r : Refusal). r .number) (c .before .before .before .before .refusal-of .ensures)) ∙ c .before .before .if1 .left))))
+returns-2 c = ap numbered (c .stands-refused .ensures ∙ ap (λ (i : Instruction). standsRefused (c .before .before .before .before .before .before .before .args .wave .0) (length (c .before .before .before .before .before .before .before .args .words .now)) (drop (c .before .before .before .before .before .before .before .args .a + 1) (c .before .before .before .before .before .before .before .args .words .now)) i) (c .before .instruction-in .ensures)) ∙ sym (refusal-at (c .before .before .before .before .before .before .before .args .wave .0) (c .before .before .before .before .before .before .before .args .words .now) (c .before .before .before .before .before .before .before .args .a) (sym (reads-instruction (getD (c .before .before .before .before .before .before .before .args .words .now) (c .before .before .before .before .before .before .before .args .a) 0) (sym (ap (λ (r : Refusal). r .number) (c .before .before .before .before .refusal-of .ensures)) ∙ c .before .before .if1 .left))))
 
 pub word-refusal-spec : {M : Type 1} → statement M
 word-refusal-spec =

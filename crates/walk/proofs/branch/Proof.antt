@@ -7,7 +7,7 @@ use lib.Bits.{bitOr}
 use Rattle.flow.specs.declared.Move.{Move}
 use Rattle.flow.specs.Masks.{nextOf, jumpOf, toOf}
 use Rattle.look.specs.Closed.{backIn}
-use Rattle.walk.specs.Marks.{left}
+use Rattle.walk.specs.Loops.{left}
 use Rattle.walk.proofs.Laws.{visit-law, put-less}
 use borrow.Author.Needs.{needs}
 use Rattle.walk.proofs.branch.Statement.{statement}
@@ -54,7 +54,7 @@ returns c =
     let j = c .before .before .put-there .ensures in
     let less′ : left (c .before .before .put-there .last .1 .0) ≤ left (c .before .before .before .before .before .before .before .put .last .1 .0) = put-less (length (s .words .now)) _ _ _ j in
     let w =
-    visit-law (s .limit) (s .words .now) (h .back) ms (h .at) (h .mark) (t .result .back) (f .result .next) (f .result .jump) (f .result .to) (pre .marks) (pre .hand .below) (pre .hand .part) (t .ensures .rose)
+    visit-law (s .limit) (s .words .now) (h .back) ms (h .at) (h .mark) (t .result .back) (f .result .next) (f .result .jump) (f .result .to .0) (pre .marks) (pre .hand .below) (pre .hand .part) (t .ensures .rose)
     (t .ensures .back ∙ ap (λ (z : Move). bitOr (h .back) (backIn z (h .mark))) o)
     (f .ensures .next ∙ ap (λ (z : Move). nextOf z (h .mark) (t .result .back)) o)
     (f .ensures .jump ∙ ap (λ (z : Move). jumpOf (s .limit) z (h .mark)) o)
@@ -82,7 +82,7 @@ returns-2 c =
     let less : left (c .before .before .before .before .before .before .before .before .before .put .last .1 .0) ≤ left ms = put-less (length (s .words .now)) ms _ _ p in
     let j = c .before .before .leap .ensures in
     let w =
-    visit-law (s .limit) (s .words .now) (h .back) ms (h .at) (h .mark) (t .result .back) (f .result .next) (f .result .jump) (f .result .to) (pre .marks) (pre .hand .below) (pre .hand .part) (t .ensures .rose)
+    visit-law (s .limit) (s .words .now) (h .back) ms (h .at) (h .mark) (t .result .back) (f .result .next) (f .result .jump) (f .result .to .0) (pre .marks) (pre .hand .below) (pre .hand .part) (t .ensures .rose)
     (t .ensures .back ∙ ap (λ (z : Move). bitOr (h .back) (backIn z (h .mark))) o)
     (f .ensures .next ∙ ap (λ (z : Move). nextOf z (h .mark) (t .result .back)) o)
     (f .ensures .jump ∙ ap (λ (z : Move). jumpOf (s .limit) z (h .mark)) o)

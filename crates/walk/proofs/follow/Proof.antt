@@ -3,7 +3,7 @@ use Prim.Native.Nat.{_≤_}
 use mathlib.Core.Path.{_∙_}
 use native.Mathlib.Omega.{arith}
 use lib.ListN.{length}
-use Rattle.walk.specs.Marks.{Room, AtHand, Since, fresh, since, load}
+use Rattle.walk.specs.Loops.{Room, AtHand, Since, fresh, since, load}
 use Rattle.walk.proofs.Laws.{since-more, turn-hand, turn-fell, turn-room}
 use Rattle.walk.proofs.follow.Statement.{statement}
 use Rattle.walk.proofs.follow.Tie as tie

@@ -1,7 +1,7 @@
 -- A bit that was set pays for a hint.
 use Prim.Native.Nat.{_<_, _≤_}
 use native.Mathlib.Omega.{arith}
-use Rattle.walk.specs.Marks.{left}
+use Rattle.walk.specs.Loops.{left}
 use Rattle.walk.proofs.Laws.{put-less, put-left}
 use borrow.Author.Needs.{needs}
 use Rattle.walk.proofs.leap.Statement.{statement}

@@ -8,7 +8,7 @@ use borrow.Author.Tests.{not-true, not-false}
 use lib.ListN.{length}
 use Rattle.look.specs.Closed.{Tells, ClosedAt}
 use Rattle.look.proofs.Laws.{tells-yes, tells-no}
-use Rattle.walk.specs.Marks.{OpenIs, closed, first}
+use Rattle.walk.specs.Loops.{OpenIs, closed, first}
 use Rattle.walk.proofs.Laws.{below-more, unclean-fault}
 use Rattle.walk.proofs.look_over.Statement.{statement}
 use Rattle.walk.proofs.look_over.Tie as tie

@@ -2,7 +2,7 @@
 use mathlib.Core.Path.{sym, ap, subst}
 use Rattle.flow.specs.declared.Move.{Move}
 use Rattle.look.specs.Closed.{backIn}
-use Rattle.walk.specs.Marks.{NoteDone}
+use Rattle.walk.specs.Loops.{NoteDone}
 use Rattle.walk.proofs.Laws.{noted-none}
 use borrow.Author.Needs.{needs}
 use Rattle.walk.proofs.note.Statement.{statement}

@@ -3,7 +3,7 @@ use Prim.Native.Nat.{_<_, _^_}
 use native.Mathlib.Omega.{arith}
 use lib.ListN.{getD}
 use lib.Bits.{bitOr, or-add-and, and-le-r}
-use Rattle.walk.specs.Marks.{same, more}
+use Rattle.walk.specs.Loops.{same, more}
 use borrow.Author.Needs.{needs}
 use Rattle.walk.proofs.put.Statement.{statement}
 use Rattle.walk.proofs.put.Tie as tie

@@ -1,6 +1,6 @@
 -- No bits are held everywhere.
 use Rattle.look.proofs.Laws.{held-zero}
-use Rattle.walk.specs.Marks.{same}
+use Rattle.walk.specs.Loops.{same}
 use borrow.Author.Needs.{needs}
 use Rattle.walk.proofs.put_there.Statement.{statement}
 use Rattle.walk.proofs.put_there.Tie as tie

@@ -5,7 +5,7 @@ use native.Mathlib.Omega.{arith}
 use lib.ListN.{length, getD}
 use Rattle.flow.specs.Walk.{On}
 use Rattle.flow.proofs.Bits.{zero-off}
-use Rattle.walk.specs.Marks.{Sound, Backs, Depths, Room, OpenIs, rest}
+use Rattle.walk.specs.Loops.{Sound, Backs, Depths, Room, OpenIs, rest}
 use Rattle.walk.proofs.Laws.{settled, open-moves}
 use Rattle.walk.proofs.settle.Statement.{statement}
 use Rattle.walk.proofs.settle.Tie as tie

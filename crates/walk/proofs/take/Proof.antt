@@ -3,7 +3,7 @@ use Prim.Native.Nat.{_-_}
 use mathlib.Core.Path.{refl}
 use native.Mathlib.Omega.{arith}
 use lib.ListN.{getD}
-use Rattle.walk.specs.Marks.{hint, ended}
+use Rattle.walk.specs.Loops.{hint, ended}
 use borrow.Author.Needs.{needs}
 use Rattle.walk.proofs.take.Statement.{statement}
 use Rattle.walk.proofs.take.Tie as tie

@@ -1,7 +1,7 @@
 -- On, to one of the hints, or to none.
 use mathlib.Core.Path.{refl}
 use native.Mathlib.Omega.{arith}
-use Rattle.walk.specs.Marks.{onward, ended}
+use Rattle.walk.specs.Loops.{onward, ended}
 use borrow.Author.Needs.{needs}
 use Rattle.walk.proofs.turn.Statement.{statement}
 use Rattle.walk.proofs.turn.Tie as tie

@@ -5,7 +5,7 @@ use native.Mathlib.Omega.{arith}
 use borrow.Author.Tests.{not-false}
 use lib.ListN.{length, getD}
 use Rattle.flow.proofs.Codes.{goes-on}
-use Rattle.walk.specs.Marks.{left}
+use Rattle.walk.specs.Loops.{left}
 use Rattle.walk.proofs.Laws.{visit-plain, put-less}
 use borrow.Author.Needs.{needs}
 use Rattle.walk.proofs.visit.Statement.{statement}

@@ -17,8 +17,8 @@ enum-told-2 c = search needs
 bare-requires : tie.Need-bare-requires
 bare-requires c κs = search needs
 
-mul-t10 : tie.Need-mul-t10
-mul-t10 c = omega (arith, c .bare .ensures, bare-le (c .before .before .before .args .m))
+mul-t11 : tie.Need-mul-t11
+mul-t11 c = omega (arith, c .bare .ensures, bare-le (c .before .before .before .args .m))
 
 enum-known-o : tie.Need-enum-known-o
 enum-known-o c = search needs
@@ -75,7 +75,7 @@ of-spec =
     enum-told
     enum-told-2
     bare-requires
-    mul-t10
+    mul-t11
     enum-known-o
     held-requires
     bare-requires-2

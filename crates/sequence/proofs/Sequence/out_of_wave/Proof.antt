@@ -9,10 +9,10 @@ reaches-past-requires : tie.Need-reaches-past-requires
 reaches-past-requires c κs = search needs
 
 returns : tie.Need-returns
-returns c = c .reaches-past .ensures ∙ wave-plain (c .before .before .args .wave) (c .before .before .args .f) (c .before .if1 .taken)
+returns c = c .reaches-past .ensures ∙ wave-plain (c .before .before .before .before .args .wave .0) (c .before .before .before .before .args .f) (c .before .before .if1 .taken)
 
 returns-2 : tie.Need-returns-2
-returns-2 c = wave-other (c .before .args .wave) (c .before .args .f) (c .if1 .left)
+returns-2 c = wave-other (c .before .before .before .before .args .wave .0) (c .before .before .before .before .args .f) (c .before .before .if1 .left)
 
 pub out-of-wave-spec : {M : Type 1} → statement M
 out-of-wave-spec = tie.close (tie.spec reaches-past-requires returns returns-2)

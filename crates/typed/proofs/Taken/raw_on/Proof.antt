@@ -21,7 +21,7 @@ onward-requires : tie.Need-onward-requires
 onward-requires c κs = search needs
 
 returns : tie.Need-returns
-returns c = rw (lt-ltb _ _ (c .before .if1 .taken), c .onward .ensures, c .before .before .grown .ensures, c .before .before .before .wide .ensures)
+returns c = rw (lt-ltb _ _ (c .before .if1 .taken), c .onward .ensures, c .before .before .grown .ensures, c .before .before .before .wide .ensures .0)
 
 troubled-requires : tie.Need-troubled-requires
 troubled-requires c κs = search needs
@@ -36,7 +36,7 @@ onward-requires-2 : tie.Need-onward-requires-2
 onward-requires-2 c κs = search needs
 
 returns-3 : tie.Need-returns-3
-returns-3 c = rw (le-ltb _ _ (c .before .before .if1 .left), lt-leb _ _ (c .before .if2 .left), c .onward2 .ensures, c .before .before .before .grown .ensures, c .before .before .before .before .wide .ensures)
+returns-3 c = rw (le-ltb _ _ (c .before .before .if1 .left), lt-leb _ _ (c .before .if2 .left), c .onward2 .ensures, c .before .before .before .grown .ensures, c .before .before .before .before .wide .ensures .0)
 
 pub raw-on-spec : {M : Type 1} → statement M
 raw-on-spec =
