@@ -1,6 +1,8 @@
 // The three answers: the listing; the verdict with the word that it is about; how a run ended, and all that it left.
 // Each comes as text for a person or as an object for a script, and its exit status last.
 use crate::space;
+use files::messages::messages_of;
+use files::trace::save;
 use instruction::QuadSamples;
 use instruction::WordAddress;
 use json::file;
@@ -11,8 +13,6 @@ use report::words::say_listing;
 use report::words::say_place;
 use report::words::say_trace;
 use request::asked::Asked;
-use request::messages::messages_of;
-use request::trace::save;
 use sequence::Sequence;
 use told::say;
 use told::say_number;

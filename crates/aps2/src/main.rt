@@ -4,9 +4,9 @@ mod answer;
 mod several;
 mod space;
 
+use files::input::words_of;
 use request::asked;
 use request::asked::Asked;
-use request::input::words_of;
 use sequence::Sequence;
 
 fn give(words: &[u64], asked: Asked) {

@@ -1,11 +1,11 @@
 // The check of several files, and of any number of them as JSON: a line for each, whatever became of those before it.
 // Nothing is kept between files but how many were accepted.
 use crate::space;
+use files::input::words_of;
 use instruction::QuadSamples;
 use json::file;
 use request::asked;
 use request::asked::Asked;
-use request::input::words_of;
 use sequence::Sequence;
 use told::say;
 use told::say_number;

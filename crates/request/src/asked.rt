@@ -1,9 +1,9 @@
 // What is asked: the command, its file and its options. What cannot be understood is said at once, in a sentence.
 ghost use Prim.Native.Nat.{_<_};
-use crate::complaint::complain;
-use crate::complaint::complain_number;
 use instruction::QuadSamples;
 use sequence::Sequence;
+use told::complaint::complain;
+use told::complaint::complain_number;
 use typed::Amount;
 use typed::number;
 use typed::same;

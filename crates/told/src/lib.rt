@@ -2,6 +2,8 @@
 // the exit status and the number that it is about.
 use libc::STDOUT_FILENO;
 
+pub mod complaint;
+
 pub const ACCEPTED: u64 = 0;
 
 pub const REFUSED: u64 = 1;

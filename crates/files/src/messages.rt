@@ -1,7 +1,7 @@
 // The messages of a run, as they are typed: numbers of a byte in decimal, parted by commas.
 // What they say is `typed`'s; here they become bytes.
-use crate::complaint::complain;
 use crate::input::Found;
+use told::complaint::complain;
 use typed::Spelling;
 use typed::Taken;
 

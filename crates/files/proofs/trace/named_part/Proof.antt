@@ -4,8 +4,8 @@ use lib.ListN.{length}
 use native.Mathlib.Omega.{arith}
 use Prim.Native.Nat.{_-_}
 use mathlib.Core.Path.{_≡_, refl}
-use Rattle.request.proofs.trace.named_part.Statement.{statement}
-use Rattle.request.proofs.trace.named_part.Tie as tie
+use Rattle.files.proofs.trace.named_part.Statement.{statement}
+use Rattle.files.proofs.trace.named_part.Tie as tie
 
 abbrev Inv-loop : tie.InvT-loop
 Inv-loop name₀ n suffix at₀ i₀ name at i = length name ≡ length name₀

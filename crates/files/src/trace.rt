@@ -1,6 +1,6 @@
 // The trace as a file of raw words.
 // It is written beside its place, under its name and `.part`, and takes its place when it is whole.
-use crate::complaint::complain_of_file;
+use told::complaint::complain_of_file;
 use typed::raw;
 
 fn write_words(fd: i32, words: &[u64]) -> bool {

@@ -3,8 +3,8 @@ use mathlib.Core.Path.{sym}
 use native.Mathlib.Omega.{arith}
 use lib.Seq.{length-take-le}
 use borrow.Author.Needs.{needs}
-use Rattle.request.proofs.trace.save.Statement.{statement}
-use Rattle.request.proofs.trace.save.Tie as tie
+use Rattle.files.proofs.trace.save.Statement.{statement}
+use Rattle.files.proofs.trace.save.Tie as tie
 
 -- src/trace.rt:77:20
 large-buffer-requires : tie.Need-large-buffer-requires

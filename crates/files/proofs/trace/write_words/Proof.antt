@@ -4,8 +4,8 @@ use Prim.Native.Nat.{_-_}
 use mathlib.Core.Path.{sym, ap}
 use lib.ListN.{length}
 use borrow.Author.Needs.{needs}
-use Rattle.request.proofs.trace.write_words.Statement.{statement}
-use Rattle.request.proofs.trace.write_words.Tie as tie
+use Rattle.files.proofs.trace.write_words.Statement.{statement}
+use Rattle.files.proofs.trace.write_words.Tie as tie
 
 abbrev Inv-loop : tie.InvT-loop
 Inv-loop fd words i₀ i = Unit {0}

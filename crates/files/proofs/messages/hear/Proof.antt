@@ -3,8 +3,8 @@ use mathlib.Core.Path.{sym}
 use native.Mathlib.Omega.{arith}
 use lib.Seq.{length-take-le}
 use borrow.Author.Needs.{needs}
-use Rattle.request.proofs.messages.hear.Statement.{statement}
-use Rattle.request.proofs.messages.hear.Tie as tie
+use Rattle.files.proofs.messages.hear.Statement.{statement}
+use Rattle.files.proofs.messages.hear.Tie as tie
 
 start-requires : tie.Need-start-requires
 start-requires c κs = search needs

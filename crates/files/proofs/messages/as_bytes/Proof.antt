@@ -5,8 +5,8 @@ use native.Mathlib.Omega.{arith}
 use Prim.Native.Nat.{_-_}
 use mathlib.Core.Path.{_≡_, refl}
 use lib.Bits.{and-le-r}
-use Rattle.request.proofs.messages.as_bytes.Statement.{statement}
-use Rattle.request.proofs.messages.as_bytes.Tie as tie
+use Rattle.files.proofs.messages.as_bytes.Statement.{statement}
+use Rattle.files.proofs.messages.as_bytes.Tie as tie
 
 abbrev Inv-loop : tie.InvT-loop
 Inv-loop numbers out₀ i₀ out i = length out ≡ length out₀

@@ -3,8 +3,8 @@ use native.Mathlib.Omega.{arith}
 use mathlib.Core.Path.{_≡_, refl, _∙_}
 use lib.ListN.{length}
 use borrow.Author.Needs.{needs}
-use Rattle.request.proofs.input.read_all.Statement.{statement}
-use Rattle.request.proofs.input.read_all.Tie as tie
+use Rattle.files.proofs.input.read_all.Statement.{statement}
+use Rattle.files.proofs.input.read_all.Tie as tie
 
 abbrev Inv-loop : tie.InvT-loop
 Inv-loop fd words₀ spelling coming₀ turns₀ words coming turns = length words ≡ length words₀

@@ -1,13 +1,12 @@
-// The words of a file or of standard input, and the messages of a run.
-use crate::complaint::complain;
-use crate::complaint::complain_number;
-use crate::complaint::complain_of_file;
+// The words of a file or of standard input, as text or raw.
+// They come in pieces of any size; what is wrong with them is told with its place.
 use libc::STDIN_FILENO;
 use sequence::Sequence;
-use typed::Amount;
+use told::complaint::complain;
+use told::complaint::complain_number;
+use told::complaint::complain_of_file;
 use typed::Spelling;
 use typed::Taken;
-use typed::number;
 use typed::same;
 
 // What has come in, and whether more may come; after a failure nothing more does.
