@@ -2,6 +2,7 @@
    They are called in turn, many times and with cleared buffers; the best time of each counts, and the answers must agree. */
 #include "../include/aps2.h"
 #include "../second/second.h"
+#include "../tests/lines.h"
 #include "../tests/sequences.h"
 
 enum { WORDS = 65536, FEWER = 4096, STEPS = 1000000, LISTED = 2048, WAVE = 16, NEST = 16, ROUNDS = 12, TIMES = 4 };
@@ -24,13 +25,13 @@ static double now(void)
     return (double)m.seconds * 1e9 + (double)m.nanoseconds;
 }
 
-/* What both are given, and what each gives back; `lent` is the marks or the trace, and `room` says how much of it is lent.
-   Both stand at the start of a page, so that neither is slowed by where the linker put it. */
+/* What both are given, and what each gives back; `lent` is the marks, the trace or the words read, and `room` says how much
+   of it is lent. Both stand at the start of a page, so that neither is slowed by where the linker put it. */
 static uint64_t words[WORDS];
-static uint8_t raw[8 * LISTED];
-static size_t n, room;
+static uint8_t raw[8 * LISTED], text[HEADER + LINE * WORDS];
+static size_t n, room, text_len;
 struct answer {
-    uint64_t fields[8], number, place[1], answer[54], lent[STEPS];
+    uint64_t fields[8], number, place[1], answer[54], lent[STEPS], told[2];
 } __attribute__((aligned(4096)));
 static struct answer ours, theirs;
 
@@ -53,6 +54,9 @@ static void their_run(void) { theirs.number = second_run(words, n, WAVE, NULL, 0
 
 static void our_listing(void) { ours.number = aps2_listing(raw, 8 * n, (uint8_t *)ours.lent, 8 * room); }
 static void their_listing(void) { theirs.number = second_listing(raw, 8 * n, (uint8_t *)theirs.lent, 8 * room); }
+
+static void our_read_listing(void) { ours.number = aps2_read_listing(text, text_len, ours.lent, room, ours.told); }
+static void their_read_listing(void) { theirs.number = second_read_listing(text, text_len, theirs.lent, room, theirs.told); }
 
 /* Plays, and a GOTO back to the first. */
 static void straight(void)
@@ -86,6 +90,16 @@ static void listed_mixed(void)
 {
     mixed();
     as_bytes();
+}
+
+/* The listing of mixed words that can all be read back. */
+static void text_mixed(void)
+{
+    uint64_t fields[8];
+    mixed();
+    text_len = put_header(text);
+    for (size_t a = 0; a < n; a++)
+        text_len += put_line(text + text_len, a, second_read(words[a], fields) ? PLAY : words[a]);
 }
 
 /* From the last address down to the first, one GOTO after another. */
@@ -146,6 +160,7 @@ struct line {
 #define RUN(family, fill, n) { "run " family, our_run, their_run, fill, n, STEPS, STEPS, 0, 1e18, 1e18 }
 
 #define LIST(family, fill) { "listing " family, our_listing, their_listing, fill, LISTED, 8 * LISTED, LISTED, 0, 1e18, 1e18 }
+#define READ_LISTING(name, n, fewer) { name, our_read_listing, their_read_listing, text_mixed, n, n, n, fewer, 1e18, 1e18 }
 
 static struct line lines[] = {
     READ("plays", straight),
@@ -159,6 +174,9 @@ static struct line lines[] = {
     RUN("calls", nests, 2 * NEST + 2),
     LIST("plays", listed_plays),
     LIST("mixed", listed_mixed),
+    READ_LISTING("read-listing mixed 2048", LISTED, 0),
+    READ_LISTING("read-listing mixed 65536", WORDS, 0),
+    READ_LISTING("read-listing-growth mixed", LISTED, 1),
 };
 enum { LINES = sizeof lines / sizeof *lines };
 
@@ -179,7 +197,7 @@ static int same(const uint64_t *a, const uint64_t *b, size_t count)
 static int agree(void)
 {
     return ours.number == theirs.number && same(ours.place, theirs.place, 1) && same(ours.fields, theirs.fields, 8) &&
-           same(ours.answer, theirs.answer, 54) && same(ours.lent, theirs.lent, room);
+           same(ours.answer, theirs.answer, 54) && same(ours.told, theirs.told, 2) && same(ours.lent, theirs.lent, room);
 }
 
 static double once(struct answer *answer, void (*work)(void))
@@ -188,6 +206,7 @@ static double once(struct answer *answer, void (*work)(void))
     clear(answer->place, 1);
     clear(answer->fields, 8);
     clear(answer->answer, 54);
+    clear(answer->told, 2);
     clear(answer->lent, room);
     double start = now();
     work();

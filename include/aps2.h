@@ -43,6 +43,11 @@ uint64_t aps2_run(const uint64_t *words, size_t n, uint64_t wave, const uint8_t 
    listing's length, and writes it to `out` where it fits; where it does not, nothing is written. */
 size_t aps2_listing(const uint8_t *bytes, size_t len, uint8_t *out, size_t out_len);
 
+/* Reads a listing back as words, as many as there is room for. Returns 0 and starts `words` with them, or returns the number of the first
+   bad line, 60 to 64 or the writer's 23 or 13 to 19, and leaves `words` as it was; what is past the words read is always left. told: 0 the
+   line, from 1, and 0 beside 0; 1 how many words, and 0 after a refusal. RETURN and LOAD_CMP come back with payload zero. */
+uint64_t aps2_read_listing(const uint8_t *text, size_t len, uint64_t *words, size_t words_len, uint64_t told[2]);
+
 #ifdef __cplusplus
 }
 #endif

@@ -1,14 +1,8 @@
 /* The listing: document 01, "The listing program". It is laid out on a page that has room for the longest one, and copied where it fits.
    Each function writes from a place on and gives back the place behind what it wrote. */
-#include "word.h"
+#include "names.h"
 
 enum { WORDS = 2048, LINE = 64, PAGE = LINE * (WORDS + 1) };
-
-static const char *const names[16] = {
-    "WAVEFORM", "MARKER", "WAIT", "LOAD_REPEAT", "REPEAT", "CMP", "GOTO", "CALL", "RETURN", "SYNC", "MODULATOR", "LOAD_CMP", "PREFETCH",
-    "", "", "NOOP",
-};
-static const uint8_t shown[16] = { 4, 4, 0, 1, 1, 2, 1, 1, 0, 0, 3, 0, 1 };
 
 static inline uint8_t *text(uint8_t *to, const char *s)
 {

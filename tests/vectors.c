@@ -1,5 +1,6 @@
 /* Cases from a separate implementation, one to a line on standard input, compared with the proved code.
-   The first line names the kind: `read`, `write`, `check`, `run` or `listing`. Lists are parted by commas, `-` is the empty list, words are hexadecimal. */
+   The first line names the kind: `read`, `write`, `check`, `run`, `listing` or `read_listing`. Lists are parted by commas, `-` is the empty
+   list, words are hexadecimal. */
 #include "../include/aps2.h"
 #include "check.h"
 
@@ -168,21 +169,51 @@ static void listing_cases(void)
     family("vectors: listing");
 }
 
+/* Words after are the whole buffer, which is all 1 before. */
+static void read_listing_cases(void)
+{
+    while (more()) {
+        size_t n = hexadecimal(text), room = number(10);
+        uint64_t expected = number(10), line = number(10), count = number(10), told[2];
+        size_t after = numbers(16, listed, MOST);
+        for (size_t i = 0; i < MOST; i++)
+            words[i] = 1;
+        int good = aps2_read_listing(text, n, words, room, told) == expected && told[0] == line && told[1] == count && after == room;
+        for (size_t i = 0; i < MOST; i++)
+            good &= words[i] == (i < after ? listed[i] : 1);
+        compared++;
+        if (!good)
+            disagree(compared);
+    }
+    family("vectors: read_listing");
+}
+
+static const struct {
+    const char *name;
+    void (*cases)(void);
+} kinds[] = {
+    { "read", read_cases }, { "write", write_cases }, { "check", check_cases },
+    { "run", run_cases }, { "listing", listing_cases }, { "read_listing", read_listing_cases },
+};
+
+static int same(const char *a, const char *b)
+{
+    while (*a && *a == *b)
+        a++, b++;
+    return *a == *b;
+}
+
 int main(void)
 {
-    int kind = getchar(), second = getchar();
-    next = second;
-    while (next != '\n')
-        next = getchar();
-    if (kind == 'l')
-        listing_cases();
-    else if (kind == 'w')
-        write_cases();
-    else if (kind == 'c')
-        check_cases();
-    else if (second == 'e')
-        read_cases();
-    else
-        run_cases();
-    return 0;
+    char kind[16] = { 0 };
+    for (size_t i = 0; (next = getchar()) != '\n' && next != -1; i++)
+        if (i < sizeof kind - 1)
+            kind[i] = (char)next;
+    for (size_t k = 0; k < sizeof kinds / sizeof *kinds; k++)
+        if (same(kind, kinds[k].name)) {
+            kinds[k].cases();
+            return 0;
+        }
+    printf("FAIL vectors: no kind %s\n", kind);
+    return 1;
 }

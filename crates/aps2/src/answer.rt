@@ -1,6 +1,7 @@
-// The three answers: the listing; the verdict with the word that it is about; how a run ended, and all that it left.
+// The answers: the listing; the verdict with the word that it is about; how a run ended, and all that it left; the words of a listing.
 // Each comes as text for a person or as an object for a script, and its exit status last.
 use crate::space;
+use files::input::Found;
 use files::messages::messages_of;
 use files::trace::save;
 use instruction::QuadSamples;
@@ -9,9 +10,12 @@ use json::file;
 use json::state as by_name;
 use rehearsal::Answer;
 use report::state::say_state;
+use report::words::line_of;
+use report::words::say_hexadecimal;
 use report::words::say_listing;
 use report::words::say_place;
 use report::words::say_trace;
+use report::words::say_typed;
 use request::asked::Asked;
 use sequence::Sequence;
 use told::say;
@@ -37,13 +41,13 @@ fn say_accepted(n: usize, wave: QuadSamples) {
     say(b" quad-samples of waveform memory\n");
 }
 
-fn say_refused(words: &[u64], number: u64, place: WordAddress) {
+fn say_refused(words: &[u64], number: u64, place: WordAddress, listed: bool) {
     say(b"refused: ");
     say_number(number);
-    say_place(words, place);
+    say_place(words, place, listed);
 }
 
-pub fn check(words: &[u64], wave: QuadSamples) {
+pub fn check(words: &[u64], wave: QuadSamples, listed: bool) {
     let mut marks = space::for_words();
     let verdict = verdict::check(words, wave, &mut marks);
     let number = verdict.refusal.number;
@@ -52,7 +56,7 @@ pub fn check(words: &[u64], wave: QuadSamples) {
         told::ends(told::ACCEPTED, 0);
         return;
     }
-    say_refused(words, number, verdict.place);
+    say_refused(words, number, verdict.place, listed);
     told::ends(told::REFUSED, number);
 }
 
@@ -76,18 +80,21 @@ fn status_of(number: u64) -> u64 {
     }
 }
 
-fn say_run(words: &[u64], trace: &[u64], answer: Answer) {
+fn say_run(words: &[u64], trace: &[u64], answer: Answer, listed: bool) {
     say_end(answer.end.number);
-    say_place(words, answer.state.core.address);
+    say_place(words, answer.state.core.address, listed);
     let state = answer.state;
     say_state(state);
     say_trace(trace);
 }
 
-fn say_run_by_name(words: &[u64], trace: &[u64], answer: Answer, asked: Asked) {
+fn say_run_by_name(words: &[u64], trace: &[u64], answer: Answer, asked: Asked, listed: bool) {
     let end = answer.end.number;
     file::begin(asked.file, status_of(end));
     file::say_member(b"end", end);
+    if listed {
+        file::say_member(b"line", line_of(answer.state.core.address.0));
+    }
     file::say_member(b"words", words.len() as u64);
     file::say_member(b"wave", asked.wave.0);
     let state = answer.state;
@@ -98,22 +105,22 @@ fn say_run_by_name(words: &[u64], trace: &[u64], answer: Answer, asked: Asked) {
 }
 
 // What a run is told that has come to its end. The trace goes to its file first, so that there is no answer without it.
-fn tell(words: &[u64], trace: &[u64], answer: Answer, asked: Asked) {
+fn tell(words: &[u64], trace: &[u64], answer: Answer, asked: Asked, listed: bool) {
     let end = answer.end.number;
     if asked.trace != 0 && !save(asked.trace, trace) {
         told::ends(told::NO_ANSWER, 0);
         return;
     }
     if asked.json {
-        say_run_by_name(words, trace, answer, asked);
+        say_run_by_name(words, trace, answer, asked, listed);
         told::ends(status_of(end), 0);
         return;
     }
-    say_run(words, trace, answer);
+    say_run(words, trace, answer, listed);
     told::ends(status_of(end), end);
 }
 
-fn rehearse(words: &[u64], messages: &[u8], trace: &mut [u64], asked: Asked) {
+fn rehearse(words: &[u64], messages: &[u8], trace: &mut [u64], asked: Asked, listed: bool) {
     let answer = rehearsal::run(
         words,
         asked.wave,
@@ -124,19 +131,19 @@ fn rehearse(words: &[u64], messages: &[u8], trace: &mut [u64], asked: Asked) {
     );
     let sent = answer.state.core.sent as usize;
     if sent <= trace.len() {
-        tell(words, &trace[..sent], answer, asked);
+        tell(words, &trace[..sent], answer, asked, listed);
     }
 }
 
 // With as much room as is asked for.
-fn rehearse_in_room(words: &[u64], messages: &[u8], trace: &mut [u64], asked: Asked) {
+fn rehearse_in_room(words: &[u64], messages: &[u8], trace: &mut [u64], asked: Asked, listed: bool) {
     let room = asked.room as usize;
     if room <= trace.len() {
-        rehearse(words, messages, &mut trace[..room], asked);
+        rehearse(words, messages, &mut trace[..room], asked, listed);
     }
 }
 
-pub fn run(words: &[u64], asked: Asked) {
+pub fn run(words: &[u64], asked: Asked, listed: bool) {
     let mut messages = io::large_buffer();
     let mut numbers = space::for_words();
     let heard = messages_of(asked.messages, &mut numbers, &mut messages);
@@ -147,6 +154,51 @@ pub fn run(words: &[u64], asked: Asked) {
     }
     if n <= messages.len() {
         let mut trace = space::for_trace();
-        rehearse_in_room(words, &messages[..n], &mut trace, asked);
+        rehearse_in_room(words, &messages[..n], &mut trace, asked, listed);
     }
+}
+
+// The words of a listing: as text, or raw into a file.
+pub fn words(words: &[u64], asked: Asked) {
+    if asked.out == 0 {
+        say_hexadecimal(words);
+        told::ends(told::ACCEPTED, 0);
+        return;
+    }
+    if !save(asked.out, words) {
+        told::ends(told::NO_ANSWER, 0);
+        return;
+    }
+    say_number(words.len() as u64);
+    say(b" words\n");
+    told::ends(told::ACCEPTED, 0);
+}
+
+// A listing that is refused: its number and the line.
+pub fn say_bad_listing(found: Found) {
+    say(b"refused: ");
+    say_number(found.number);
+    say(b" at line ");
+    say_number(found.line);
+    say(b"\n");
+}
+
+// The same by name, for the file that an argument names.
+pub fn say_bad_listing_by_name(found: Found, argument: usize) {
+    file::begin(argument, told::REFUSED);
+    file::say_member(b"number", found.number);
+    file::say_member(b"line", found.line);
+    file::end();
+}
+
+// And what stands in that line.
+pub fn refused_listing(found: Found, line: &[u8], asked: Asked) {
+    if asked.json {
+        say_bad_listing_by_name(found, asked.file);
+        told::ends(told::REFUSED, 0);
+        return;
+    }
+    say_bad_listing(found);
+    say_typed(line);
+    told::ends(told::REFUSED, found.number);
 }

@@ -1,24 +1,24 @@
-// aps2: lists, checks and rehearses the words of a file, for the script of the same name.
+// aps2: lists, checks and rehearses the words of a file, and reads listings back, for the script of the same name.
 // What is worth a proof stands in the libraries; here what is asked for is answered.
 mod answer;
 mod several;
 mod space;
 
+use files::input::Found;
 use files::input::words_of;
+use files::listed::listing_of;
 use request::asked;
 use request::asked::Asked;
 use sequence::Sequence;
 
-fn give(words: &[u64], asked: Asked) {
-    if asked.command == asked::LIST {
-        answer::list(words, asked);
-        return;
+fn give(words: &[u64], asked: Asked, listed: bool) {
+    let command = asked.command;
+    match command {
+        asked::LIST => answer::list(words, asked),
+        asked::CHECK => answer::check(words, asked.wave, listed),
+        asked::WORDS => answer::words(words, asked),
+        _ => answer::run(words, asked, listed),
     }
-    if asked.command == asked::CHECK {
-        answer::check(words, asked.wave);
-        return;
-    }
-    answer::run(words, asked);
 }
 
 fn without_words(asked: Asked) {
@@ -29,16 +29,31 @@ fn without_words(asked: Asked) {
     told::ends(told::NO_ANSWER, 0);
 }
 
+// What `words` reads is a listing, whatever its name.
+fn find(asked: Asked, words: &mut [u64], line: &mut [u8]) -> Found {
+    if asked.command == asked::WORDS {
+        return listing_of(asked.file, words, line);
+    }
+    words_of(asked.file, asked.hex, words, line)
+}
+
 fn serve(asked: Asked) {
     let mut words = space::for_words();
-    let found = words_of(asked.file, asked.hex, &mut words);
+    let mut line = io::buffer();
+    let found = find(asked, &mut words, &mut line);
     let n = found.count;
     if !found.good {
         without_words(asked);
         return;
     }
+    if found.number != 0 {
+        if found.shown <= line.len() {
+            answer::refused_listing(found, &line[..found.shown], asked);
+        }
+        return;
+    }
     if n <= Sequence::WORDS as usize {
-        give(&words[..n], asked);
+        give(&words[..n], asked, found.listed);
     }
 }
 

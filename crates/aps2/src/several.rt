@@ -1,9 +1,13 @@
 // The check of several files, and of any number of them as JSON: a line for each, whatever became of those before it.
 // Nothing is kept between files but how many were accepted.
+use crate::answer::say_bad_listing;
+use crate::answer::say_bad_listing_by_name;
 use crate::space;
+use files::input::Found;
 use files::input::words_of;
 use instruction::QuadSamples;
 use json::file;
+use report::words::line_of;
 use request::asked;
 use request::asked::Asked;
 use sequence::Sequence;
@@ -71,7 +75,25 @@ fn say_no_answer(asked: Asked, argument: usize) {
     say(b": no answer\n");
 }
 
-fn say_verdict(n: u64, verdict: Verdict) {
+fn say_line(verdict: Verdict, listed: bool) {
+    if listed {
+        say(b", line ");
+        say_number(line_of(verdict.place.0));
+    }
+}
+
+// A listing that is refused.
+fn say_refused_listing(found: Found, asked: Asked, argument: usize) {
+    if asked.json {
+        say_bad_listing_by_name(found, argument);
+        return;
+    }
+    say_name(argument);
+    say(b": ");
+    say_bad_listing(found);
+}
+
+fn say_verdict(n: u64, verdict: Verdict, listed: bool) {
     if verdict.refusal.number == 0 {
         say(b": accepted: ");
         say_number(n);
@@ -83,13 +105,25 @@ fn say_verdict(n: u64, verdict: Verdict) {
     if n != 0 {
         say(b" at word ");
         say_number(verdict.place.0);
+        say_line(verdict, listed);
     }
     say(b"\n");
 }
 
-fn say_verdict_by_name(n: u64, wave: QuadSamples, verdict: Verdict) {
+// The line of the word, 0 beside 0.
+fn line_in(verdict: Verdict) -> u64 {
+    if verdict.refusal.number == 0 {
+        return 0;
+    }
+    line_of(verdict.place.0)
+}
+
+fn say_verdict_by_name(n: u64, wave: QuadSamples, verdict: Verdict, listed: bool) {
     file::say_member(b"number", verdict.refusal.number);
     file::say_member(b"place", verdict.place.0);
+    if listed {
+        file::say_member(b"line", line_in(verdict));
+    }
     file::say_member(b"words", n);
     file::say_member(b"wave", wave.0);
     file::end();
@@ -103,32 +137,37 @@ fn status_of(number: u64) -> u64 {
     }
 }
 
-fn judge(words: &[u64], asked: Asked, argument: usize) -> u64 {
+fn judge(words: &[u64], asked: Asked, argument: usize, listed: bool) -> u64 {
     let mut marks = space::for_words();
     let verdict = verdict::check(words, asked.wave, &mut marks);
     let status = status_of(verdict.refusal.number);
     let n = words.len() as u64;
     if asked.json {
         file::begin(argument, status);
-        say_verdict_by_name(n, asked.wave, verdict);
+        say_verdict_by_name(n, asked.wave, verdict, listed);
         return status;
     }
     say_name(argument);
-    say_verdict(n, verdict);
+    say_verdict(n, verdict, listed);
     status
 }
 
 // One file, and its exit status if it were alone.
 fn check_file(asked: Asked, argument: usize) -> u64 {
     let mut words = space::for_words();
-    let found = words_of(argument, asked.hex, &mut words);
+    let mut line = io::buffer();
+    let found = words_of(argument, asked.hex, &mut words, &mut line);
     let n = found.count;
     if !found.good {
         say_no_answer(asked, argument);
         return told::NO_ANSWER;
     }
+    if found.number != 0 {
+        say_refused_listing(found, asked, argument);
+        return told::REFUSED;
+    }
     if n <= Sequence::WORDS as usize {
-        return judge(&words[..n], asked, argument);
+        return judge(&words[..n], asked, argument, found.listed);
     }
     told::NO_ANSWER
 }

@@ -7,8 +7,8 @@ use Prim.Native.Nat.{ℕ}
 use lib.ListN.{getD, length}
 use Rattle.instruction.specs.Bits.{allFit}
 use Rattle.instruction.specs.Table.{engineSelect, writeFlag}
-use Rattle.writer.specs.Writing.{writtenOf}
-use Rattle.aps2_c.specs.Fields.{numbersOf, isName, filledPast, valuesAsked, asked, notWritten, wishOf}
+use Rattle.writer.specs.Writing.{notWritten, writtenOf}
+use Rattle.aps2_c.specs.Fields.{numbersOf, isName, filledPast, valuesAsked, asked, wishOf}
 
 module _ (fs : List ℕ) where
   pub wish-past : filledPast false (length (numbersOf (asked fs .body))) 0 (valuesAsked fs) ≡ true → wishOf fs ≡ notWritten 23

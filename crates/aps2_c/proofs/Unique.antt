@@ -10,7 +10,9 @@ use Rattle.verdict.specs.declared.Verdict.{Verdict}
 use Rattle.verdict.proofs.Unique.{one-answer-check}
 use Rattle.listing.specs.Listing.{Listed}
 use Rattle.aps2_c.specs.Fields.{Read, Wrote}
-use Rattle.aps2_c.specs.Answer.{Ran, Checked}
+use Rattle.listing_reader.specs.declared.ReadBack.{ReadBack}
+use Rattle.listing_reader.proofs.Unique.{one-answer-read-listing}
+use Rattle.aps2_c.specs.Answer.{Ran, Checked, ListingRead}
 
 pub one-answer-aps2-read : (reading : Reading) {r r′ : ℕ} {fields fields′ : List ℕ} → Read reading r fields → Read reading r′ fields′ → (r ≡ r′) × (fields ≡ fields′)
 one-answer-aps2-read reading p q = (p .number ∙ sym (q .number), p .fields ∙ sym (q .fields))
@@ -33,3 +35,12 @@ one-answer-aps2-check wave words before p q =
 
 pub one-answer-aps2-listing : (text before : List ℕ) {r r′ : ℕ} {after after′ : List ℕ} → Listed text before after r → Listed text before after′ r′ → (r ≡ r′) × (after ≡ after′)
 one-answer-aps2-listing text before p q = (p .size ∙ sym (q .size), p .out ∙ sym (q .out))
+
+pub one-answer-aps2-read-listing : (text before : List ℕ) {r r′ : ℕ} {after after′ told told′ : List ℕ} → ListingRead text before after told r → ListingRead text before after′ told′ r′
+    → (r ≡ r′) × (told ≡ told′) × (after ≡ after′)
+one-answer-aps2-read-listing text before p q =
+    let o = one-answer-read-listing text before (p .reads) (q .reads) in (
+      ap (λ (t : ReadBack). t .number) (o .0),
+      p .told ∙ ap (λ (t : ReadBack). t .line ∷ t .count ∷ []) (o .0) ∙ sym (q .told),
+      o .1,
+    )

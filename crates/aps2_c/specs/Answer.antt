@@ -1,4 +1,4 @@
--- What C gets of a run, in 54 numbers, and of a check. 0 end, 1 address, 2 steps, 3 messages used, 4 trace length, 5 to 10 wait counts,
+-- What C gets of a run, in 54 numbers, of a check, and of a listing that is read back. 0 end, 1 address, 2 steps, 3 messages used, 4 trace length, 5 to 10 wait counts,
 -- 11 to 16 totals, 17 repeat counter, 18 register, 19 condition (0 none, 1 false, 2 true), 20 held, 21 depth, 22 to 37 stack addresses, 38 to 53 stack counters.
 use mathlib.Core.Path.{_≡_}
 use mathlib.Core.List.{List, [], _∷_}
@@ -13,6 +13,7 @@ use Rattle.jumps.specs.declared.Condition.the-variants.{Absent, Fails, Holds}
 use Rattle.rehearsal.specs.Run.{Rehearsed}
 use Rattle.rehearsal.specs.declared.Answer.{Answer}
 use Rattle.verdict.specs.Check.{verdict, CheckIs}
+use Rattle.listing_reader.specs.ReadBack.{ReadsBack}
 
 abbrev pub conditionOf : Condition → ℕ
 conditionOf Absent = 0
@@ -49,3 +50,10 @@ pub record Checked (wave : ℕ) (words before after given : List ℕ) (r : ℕ) 
   pub at : ℕ
   pub place : given ≡ at ∷ []
   pub verdict : CheckIs wave words before (verdict (numbered r) at) after
+
+-- what `aps2_read_listing` answers, and what it leaves in the words and tells: line, and how many words
+pub record ListingRead (text before after given : List ℕ) (r : ℕ) : Type 0 where
+  pub line : ℕ
+  pub count : ℕ
+  pub told : given ≡ line ∷ count ∷ []
+  pub reads : ReadsBack text before after (record { number = r; line = line; count = count })

@@ -15,7 +15,7 @@ use Rattle.instruction.specs.declared.Body.the-variants.{Wait, Sync, Noop}
 use Rattle.reader.specs.Reading.{numberOf}
 use Rattle.reader.specs.declared.Reading.{Reading}
 use Rattle.reader.specs.declared.Reading.the-variants.{Accepted, Refused}
-use Rattle.writer.specs.Writing.{writtenOf}
+use Rattle.writer.specs.Writing.{notWritten, writtenOf}
 use Rattle.writer.specs.declared.Written.{Written}
 
 abbrev pub fieldCount : ℕ
@@ -64,9 +64,6 @@ valuesAsked fs = getD fs 3 0 ∷ getD fs 4 0 ∷ getD fs 5 0 ∷ getD fs 6 0 ∷
 
 abbrev pub asked : List ℕ → Instruction
 asked fs = record { engine = getD fs 1 0; write = getD fs 2 0; body = bodyOf (getD fs 0 0) (valuesAsked fs) }
-
-abbrev pub notWritten : ℕ → Written
-notWritten number = record { number = number; word = 0 }
 
 -- "a code that is none is 10; anything but zero past the fields its name has is 23, and 23 is tested first"
 unfoldable pub wishOf : List ℕ → Written

@@ -3,29 +3,23 @@
 ghost use mathlib.Core.Path.{_≡_};
 ghost use mathlib.Core.Bool.{false};
 ghost use lib.ListN.{length};
-ghost use Rattle.instruction.specs.Table.{bodyOf};
 ghost use Rattle.reader.specs.Reading.{readingOf};
 ghost use Rattle.buffer.specs.Put.{Fits, Put};
 ghost use Rattle.jumps.specs.State.{fixedIn};
 ghost use Rattle.rehearsal.specs.Run.{rehearse};
 ghost use Rattle.listing.specs.Listing.{listingOf, Listed};
-ghost use Rattle.aps2_c.specs.Answer.{conditionOf, flatWith, Ran, Checked};
+ghost use Rattle.aps2_c.specs.Answer.{conditionOf, flatWith, Ran, Checked, ListingRead};
 ghost use Rattle.aps2_c.specs.Fields.{numbersOf, fieldsOf, Read, isName, filledPast, valuesAsked, wishOf, Wrote};
 use dispatch::Engines;
 use instruction::Body;
-use instruction::Comparison;
-use instruction::Ignored;
 use instruction::Instruction;
-use instruction::MarkerFields;
-use instruction::ModulatorFields;
 use instruction::QuadSamples;
 use instruction::Refusal;
-use instruction::Repeats;
-use instruction::WaveformFields;
-use instruction::WordAddress;
 use jumps::Condition;
+use laid::fields::body_of;
 use laid::widths::header_fits;
 use listing::list;
+use listing_reader::read_listing;
 use reader::Reading;
 use reader::read;
 use rehearsal::Answer;
@@ -96,45 +90,6 @@ pub extern "C" fn aps2_read(word: u64, fields: &mut [u64; Lent::FIELDS]) -> u64
     }
 }
 
-fn body_of(code: u64, fields: &[u64; Lent::FIELDS]) -> Body
-    ensures { λ r. ⌜ r ≡ bodyOf code (valuesAsked (now (fields .entry))) ⌝ }
-{
-    let a = fields[3];
-    let b = fields[4];
-    let c = fields[5];
-    let d = fields[6];
-    match code {
-        Body::WAVEFORM => Body::Waveform(WaveformFields {
-            op: a,
-            ta: b,
-            count: QuadSamples(c),
-            address: QuadSamples(d),
-        }),
-        Body::MARKER => Body::Marker(MarkerFields {
-            op: a,
-            transition: b,
-            state: c,
-            count: QuadSamples(d),
-        }),
-        Body::WAIT => Body::Wait,
-        Body::LOAD_REPEAT => Body::LoadRepeat(Repeats(a)),
-        Body::REPEAT => Body::Repeat(WordAddress(a)),
-        Body::CMP => Body::Cmp(Comparison { code: a, mask: b }),
-        Body::GOTO => Body::Goto(WordAddress(a)),
-        Body::CALL => Body::Call(WordAddress(a)),
-        Body::RETURN => Body::Return(Ignored(a)),
-        Body::SYNC => Body::Sync,
-        Body::MODULATOR => Body::Modulator(ModulatorFields {
-            op: a,
-            nco: b,
-            payload: c,
-        }),
-        Body::LOAD_CMP => Body::LoadCmp(Ignored(a)),
-        Body::PREFETCH => Body::Prefetch(WordAddress(a)),
-        _ => Body::Noop,
-    }
-}
-
 // How many of the table's fields a name has.
 fn shown_count(body: Body) -> u64
     ensures { λ r. ⌜ r ≡ length (numbersOf body) ⌝ }
@@ -179,7 +134,7 @@ fn wish(fields: &[u64; Lent::FIELDS]) -> Written
     let code = fields[0];
     let engine = fields[1];
     let flag = fields[2];
-    let body = body_of(code, fields);
+    let body = body_of(code, fields[3], fields[4], fields[5], fields[6]);
     if filled_past(shown_count(body), fields) {
         return Written {
             number: Refusal::TOO_WIDE,
@@ -298,4 +253,13 @@ pub extern "C" fn aps2_listing(bytes: &[u8], out: &mut [u8]) -> usize
     ensures { λ r. ⌜ Listed (listingOf (now (bytes .entry))) (now (out .entry)) (now (out .exit)) r ⌝ }
 {
     list(bytes, out)
+}
+
+#[no_mangle]
+pub extern "C" fn aps2_read_listing(text: &[u8], words: &mut [u64], told: &mut [u64; 2]) -> u64
+    ensures { λ r. ⌜ ListingRead (now (text .entry)) (now (words .entry)) (now (words .exit)) (now (told .exit)) r ⌝ }
+{
+    let read = read_listing(text, words);
+    *told = [read.line, read.count];
+    read.number
 }

@@ -9,7 +9,8 @@ use Rattle.jumps.specs.Jumps.{callOf, returnOf}
 use Rattle.jumps.specs.declared.Stepped.{Stepped}
 use Rattle.look.specs.Closed.{holds, fails}
 use Rattle.verdict.proofs.Unique as unique
-use Rattle.demands.specs.Answers.{One, OneEqual, OneRead, OneWrite, OneRun, OneCheck, OneList, OneStep, OneCall, OneReturn, OneMessage, OneDispatch, OneLook, OneWalk, OneSeen}
+use Rattle.listing_reader.proofs.Unique as read-back
+use Rattle.demands.specs.Answers.{One, OneEqual, OneRead, OneWrite, OneRun, OneCheck, OneList, OneReadListing, OneStep, OneCall, OneReturn, OneMessage, OneDispatch, OneLook, OneWalk, OneSeen}
 
 pub one-answer-equation : OneEqual
 one-answer-equation A d r r′ p q = p ∙ sym q
@@ -36,6 +37,11 @@ one-answer-list text before r r′ p q =
     let n = p .size ∙ sym (q .size) in
     let o = p .out ∙ sym (q .out) in
     λ i. (n i, o i)
+
+pub one-answer-read-listing : OneReadListing
+one-answer-read-listing text before r r′ p q =
+    let o = read-back.one-answer-read-listing text before p q in
+    λ i. (o .0 i, o .1 i)
 
 pub one-answer-step : OneStep
 one-answer-step e s before r r′ p q =

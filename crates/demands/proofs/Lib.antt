@@ -10,3 +10,5 @@ pub mod Faults
 pub mod Certificate
 pub mod Worked
 pub mod Answers
+pub mod Shown
+pub mod Listing

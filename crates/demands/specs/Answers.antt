@@ -1,5 +1,5 @@
 -- "that contract leaves one possible answer and one content of marks and trace" (document 01, "What the contracts settle"), for each public function.
--- Each statement is about the contract as the function's source has it; C's four are in aps2_c.
+-- Each statement is about the contract as the function's source has it; C's own are in aps2_c.
 use mathlib.Core.Path.{_≡_}
 use mathlib.Core.Bool.{Bool}
 use mathlib.Core.List.{List}
@@ -26,6 +26,8 @@ use Rattle.flow.specs.Walk.{deepest}
 use Rattle.verdict.specs.Check.{CheckIs}
 use Rattle.verdict.specs.declared.Verdict.{Verdict}
 use Rattle.listing.specs.Listing.{Listed}
+use Rattle.listing_reader.specs.ReadBack.{ReadsBack}
+use Rattle.listing_reader.specs.declared.ReadBack.{ReadBack}
 
 -- two answers that meet a contract are equal
 abbrev pub One : (A : Type 0) → (A → Type 0) → Type 0
@@ -52,6 +54,10 @@ OneCheck = (wave : ℕ) (words marks : List ℕ) → One (Verdict × List ℕ) (
 -- the length of the listing, and the buffer
 abbrev pub OneList : Type 0
 OneList = (text before : List ℕ) → One (ℕ × List ℕ) (λ r. Listed text before (r .1) (r .0))
+
+-- what is told of a listing that is read back, and the buffer
+abbrev pub OneReadListing : Type 0
+OneReadListing = (text before : List ℕ) → One (ReadBack × List ℕ) (λ r. ReadsBack text before (r .1) (r .0))
 
 -- what other crates of ours call: the step, with the arrays and the trace lent to it
 abbrev pub OneStep : Type 0

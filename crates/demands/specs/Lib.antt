@@ -3,3 +3,4 @@ pub mod Run
 pub mod Check
 pub mod Worked
 pub mod Answers
+pub mod Listing

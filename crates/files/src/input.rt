@@ -1,13 +1,14 @@
-// The words of a file or of standard input, as text or raw.
+// The words of a file or of standard input, as text, raw, or as a listing.
 // They come in pieces of any size; what is wrong with them is told with its place.
+use crate::listed::listing_named;
 use libc::STDIN_FILENO;
 use sequence::Sequence;
+use text::same;
 use told::complaint::complain;
 use told::complaint::complain_number;
 use told::complaint::complain_of_file;
 use typed::Spelling;
 use typed::Taken;
-use typed::same;
 
 // What has come in, and whether more may come; after a failure nothing more does.
 struct Coming {
@@ -16,10 +17,39 @@ struct Coming {
     failed: bool,
 }
 
-// How many words there are, or that there is no answer.
+// How many words there are, or that there is no answer; whether a listing had them. A listing that is refused has its number, the line
+// and how much of that line is shown.
 pub struct Found {
     pub count: usize,
     pub good: bool,
+    pub listed: bool,
+    pub number: u64,
+    pub line: u64,
+    pub shown: usize,
+}
+
+impl Found {
+    pub fn nothing() -> Found {
+        Found {
+            count: 0,
+            good: false,
+            listed: false,
+            number: 0,
+            line: 0,
+            shown: 0,
+        }
+    }
+
+    pub fn of(count: usize) -> Found {
+        Found {
+            count,
+            good: true,
+            listed: false,
+            number: 0,
+            line: 0,
+            shown: 0,
+        }
+    }
 }
 
 fn read_some(fd: i32, words: &mut [u64], taken: Taken, spelling: Spelling) -> Coming {
@@ -94,38 +124,32 @@ fn complain_of_words(path: &[u8], taken: Taken, trouble: u64) {
     complain_of_digits(trouble);
 }
 
-// A name that ends so holds text.
-fn ends_in_hex(path: &[u8]) -> bool {
-    let suffix = b".hex";
-    if path.len() < suffix.len() {
+// How many letters the end of a name has that tells what the file holds.
+const SUFFIX: usize = 4;
+
+fn ends_in(path: &[u8], suffix: &[u8]) -> bool {
+    if path.len() < SUFFIX {
         return false;
     }
-    same(&path[path.len() - 4..], suffix)
+    same(&path[path.len() - SUFFIX..], suffix)
 }
 
 fn words_in(fd: i32, path: &[u8], spelling: Spelling, words: &mut [u64]) -> Found {
-    let none = Found {
-        count: 0,
-        good: false,
-    };
     let coming = read_all(fd, words, spelling);
     if coming.failed {
         complain_of_file(path);
-        return none;
+        return Found::nothing();
     }
     let trouble = coming.taken.trouble_in(spelling);
     if trouble != 0 {
         complain_of_words(path, coming.taken, trouble);
-        return none;
+        return Found::nothing();
     }
-    Found {
-        count: coming.taken.count as usize,
-        good: true,
-    }
+    Found::of(coming.taken.count as usize)
 }
 
 fn spelling_of(path: &[u8], hex: bool) -> Spelling {
-    if hex | ends_in_hex(path) {
+    if hex | ends_in(path, b".hex") {
         Spelling::Hex
     } else {
         Spelling::Raw
@@ -136,10 +160,7 @@ fn words_of_file(path: &[u8], spelling: Spelling, words: &mut [u64]) -> Found {
     let fd = os::open_read(path);
     if fd < 0 {
         complain_of_file(path);
-        return Found {
-            count: 0,
-            good: false,
-        };
+        return Found::nothing();
     }
     let found = words_in(fd, path, spelling, words);
     libc::close(fd);
@@ -155,9 +176,14 @@ fn words_named(path: &[u8], hex: bool, words: &mut [u64]) -> Found {
     words_of_file(path, spelling, words)
 }
 
-// The words of the file that an argument names.
-pub fn words_of(argument: usize, hex: bool, words: &mut [u64]) -> Found {
+// The words of the file that an argument names; a name that ends in .lst is a listing's. Of one that is refused, the line is laid at the
+// start of what is lent.
+pub fn words_of(argument: usize, hex: bool, words: &mut [u64], line: &mut [u8]) -> Found {
     let mut name = io::large_buffer();
     let n = os::arg(argument, &mut name);
-    words_named(&name[..n], hex, words)
+    let path = &name[..n];
+    if !hex & ends_in(path, b".lst") {
+        return listing_named(path, words, line);
+    }
+    words_named(path, hex, words)
 }

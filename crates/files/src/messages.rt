@@ -9,10 +9,7 @@ fn bad() -> Found {
     complain(
         b"aps2: --messages: numbers from 0 to 255, parted by commas and nothing else, as 7,0,255\n",
     );
-    Found {
-        count: 0,
-        good: false,
-    }
+    Found::nothing()
 }
 
 // As many bytes as numbers, where there is room for them.
@@ -25,10 +22,7 @@ fn as_bytes(numbers: &[u64], out: &mut [u8]) -> Found {
         out[i] = (numbers[i] & 0xff) as u8;
         i += 1;
     }
-    Found {
-        count: i,
-        good: true,
-    }
+    Found::of(i)
 }
 
 // A text that is not empty: the last number has its comma here.
@@ -47,17 +41,13 @@ fn hear(text: &[u8], numbers: &mut [u64], out: &mut [u8]) -> Found {
 
 // The messages that an argument tells; none where there is no such argument, or an empty one. The numbers are lent for the way.
 pub fn messages_of(argument: usize, numbers: &mut [u64], out: &mut [u8]) -> Found {
-    let none = Found {
-        count: 0,
-        good: true,
-    };
     if argument == 0 {
-        return none;
+        return Found::of(0);
     }
     let mut text = io::large_buffer();
     let n = os::arg(argument, &mut text);
     if n == 0 {
-        return none;
+        return Found::of(0);
     }
     hear(&text[..n], numbers, out)
 }

@@ -1,4 +1,4 @@
-// The trace as a file of raw words.
+// Words as a file of raw words: a trace, or what a listing says.
 // It is written beside its place, under its name and `.part`, and takes its place when it is whole.
 use told::complaint::complain_of_file;
 use typed::raw;

@@ -17,7 +17,8 @@ use Rattle.instruction.specs.declared.Body.the-variants.{Noop}
 use Rattle.reader.specs.Reading.{readingOf}
 use Rattle.buffer.specs.Put.{put, Fits, Put}
 use Rattle.buffer.proofs.Laws.{put-none, length-put, fits-first, fits-next, puts-both, front-put}
-use Rattle.page.specs.Text.{number, letters, decimal, tab, restText, lineText, textOf}
+use Rattle.text.specs.Cut.{tab}
+use Rattle.text.specs.Line.{number, letters, decimal, restText, lineText, textOf}
 use Rattle.instruction.specs.Word.{wordBytes}
 use Rattle.names.specs.Names.{nameOf}
 use Rattle.listing.specs.Listing.{wordAt, shownOf, entriesOf, entriesIn, linesFrom, listedWords, listingOf, Listed, heardSize, heardOf, HeardSame}

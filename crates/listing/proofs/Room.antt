@@ -23,7 +23,7 @@ use Rattle.reader.specs.Reading.{noSuchCode, hasUnnamed, notItsOp, formIn, read
 use Rattle.reader.specs.declared.Reading.{Reading}
 use Rattle.reader.proofs.Laws.{reads-noop, reads, refuses}
 use Rattle.reader.proofs.Masks.{none-below, code-small}
-use Rattle.page.specs.Text.{number, letters, decimal, restText, lineText, textOf}
+use Rattle.text.specs.Line.{number, letters, decimal, restText, lineText, textOf}
 use Rattle.instruction.specs.Word.{wordBytes}
 use Rattle.names.specs.Names.{nameOf}
 use Rattle.listing.specs.Listing.{showsNone, shownOf, entriesOf, entriesIn, wordAt, linesFrom, listedWords, listingOf, lineSize, pageSize}

@@ -16,7 +16,7 @@ use Rattle.reader.specs.Reading.{readingOf}
 use Rattle.reader.specs.declared.Reading.{Reading}
 use Rattle.reader.specs.declared.Reading.the-variants.{Accepted, Refused}
 use Rattle.names.specs.Names.{nameOf}
-use Rattle.page.specs.Text.{Entry, name, number, Line, textOf}
+use Rattle.text.specs.Line.{Entry, name, number, Line, lineText, textOf}
 
 -- ---- words
 
@@ -27,6 +27,11 @@ bigEndian bytes from (suc k) = bigEndian bytes from k * byteSpan + getD bytes (f
 
 abbrev pub wordAt : List ℕ → ℕ → ℕ
 wordAt bytes a = bigEndian bytes (a * wordBytes) wordBytes
+
+-- n words, from an address on
+abbrev pub wordsFrom : List ℕ → ℕ → ℕ → List ℕ
+wordsFrom bytes a zero = []
+wordsFrom bytes a (suc n) = wordAt bytes a ∷ wordsFrom bytes (a + 1) n
 
 -- ---- lines
 
@@ -46,13 +51,17 @@ abbrev pub entriesIn : Reading → List Entry
 entriesIn (Accepted i) = entriesOf i
 entriesIn (Refused r) = name "BAD" ∷ number (r .number) ∷ []
 
-abbrev pub lineAt : List ℕ → ℕ → Line
-lineAt bytes a = record { first = number a; rest = entriesIn (readingOf (wordAt bytes a)) }
+abbrev pub lineOf : ℕ → ℕ → Line
+lineOf a word = record { first = number a; rest = entriesIn (readingOf word) }
 
--- the lines of n words, from an address on
+-- the lines of words, from an address on
+abbrev pub wordLines : ℕ → List ℕ → List Line
+wordLines a [] = []
+wordLines a (w ∷ ws) = lineOf a w ∷ wordLines (a + 1) ws
+
+-- the lines of n words of an input, from an address on
 abbrev pub linesFrom : List ℕ → ℕ → ℕ → List Line
-linesFrom bytes a zero = []
-linesFrom bytes a (suc n) = lineAt bytes a ∷ linesFrom bytes (a + 1) n
+linesFrom bytes a n = wordLines a (wordsFrom bytes a n)
 
 -- ---- the listing
 
@@ -63,6 +72,13 @@ listedWords = 2048
 -- "`aps2-listing`, tab, `1`"
 abbrev pub header : Line
 header = record { first = name "aps2-listing"; rest = number 1 ∷ [] }
+
+abbrev pub headerText : List ℕ
+headerText = lineText (header .first) (header .rest)
+
+-- words as they are listed, however many
+abbrev pub listed : List ℕ → List ℕ
+listed words = textOf (header ∷ wordLines 0 words)
 
 -- "`refused`, tab, `8`"
 abbrev pub refused : ℕ → Line

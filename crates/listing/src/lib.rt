@@ -6,9 +6,10 @@ ghost use Prim.Native.Nat.{_≤_, _<_, _+_, _*_, _%_};
 ghost use lib.ListN.{length, take, drop};
 ghost use Rattle.buffer.specs.Put.{Fits, Put};
 ghost use Rattle.reader.specs.Reading.{readingOf};
-ghost use Rattle.page.specs.Text.{Entry, name, number, letters, digit, decimal, tab, lineFeed, restText, lineText, textOf};
+ghost use Rattle.text.specs.Cut.{tab, lineFeed};
+ghost use Rattle.text.specs.Line.{Entry, name, number, letters, digit, decimal, restText, lineText, textOf};
 ghost use Rattle.instruction.specs.Word.{wordBytes, byteSpan};
-ghost use Rattle.listing.specs.Listing.{wordAt, shownOf, entriesOf, entriesIn, linesFrom, listingOf, heardSize, heardOf, pageSize, Listed};
+ghost use Rattle.listing.specs.Listing.{wordAt, shownOf, entriesOf, entriesIn, linesFrom, headerText, listingOf, heardSize, heardOf, pageSize, Listed};
 use instruction::Body;
 use instruction::Instruction;
 use names::put_name;
@@ -42,6 +43,9 @@ impl Listing {
 
     // Bytes of an input that are enough to tell its listing: two words more than are listed.
     pub const HEARD: usize = Listing::WORD_BYTES * (Listing::WORDS + 2);
+
+    // Room for the header line.
+    pub const HEADER: usize = 16;
 
     // No line is longer.
     pub const LINE: usize = 84;
@@ -126,6 +130,14 @@ fn put_pair(page: &mut [u8], text: &[u8], n: u64) -> usize
     put_one(page, end, n)
 }
 
+// The header line, from the start of a page.
+pub fn put_header(page: &mut [u8]) -> usize
+    requires { ⌜ Fits (headerText) (now page) 0 ⌝ }
+    ensures { λ r. ⌜ Put (headerText) (now (page .entry)) 0 (now (page .exit)) r ⌝ }
+{
+    put_pair(page, b"aps2-listing", Listing::EDITION)
+}
+
 // The word at an address, most significant byte first.
 fn word_at(bytes: &[u8], a: usize) -> u64
     requires { ⌜ (a + 1) * wordBytes ≤ length (now bytes) ⌝ }
@@ -167,7 +179,7 @@ fn lay_out(bytes: &[u8], page: &mut [u8]) -> usize
     if Listing::WORDS < n {
         return put_pair(page, b"refused", Listing::TOO_MANY);
     }
-    let from = put_pair(page, b"aps2-listing", Listing::EDITION);
+    let from = put_header(page);
     put_lines(page, from, bytes, n)
 }
 

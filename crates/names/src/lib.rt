@@ -1,11 +1,28 @@
-// The names of instructions, on a page.
+// The names of instructions: on a page, and whose a name is.
 // A name is a text of its own in each arm: measured, this is faster than a table that is put on the stack for every word.
+ghost use mathlib.Core.Path.{_≡_};
 ghost use mathlib.Core.List.{_∷_};
 ghost use Rattle.buffer.specs.Put.{Fits, Put};
-ghost use Rattle.page.specs.Text.{letters, tab};
-ghost use Rattle.names.specs.Names.{nameOf};
+ghost use Rattle.text.specs.Cut.{tab, sameText};
+ghost use Rattle.text.specs.Line.{letters};
+ghost use Rattle.names.specs.Names.{nameOf, nameAt, rowNamed, guessOf};
 use instruction::Body;
+use laid::fields::body_of;
 use page::put_word;
+use text::same;
+
+pub struct Names;
+
+impl Names {
+    // The op codes in their order, and NOOP behind the last of them.
+    pub const COUNT: u64 = Body::PREFETCH + 2;
+
+    // Room for the longest name, and a tab before it.
+    pub const LONGEST: usize = 12;
+
+    // No name is shorter; no two have the same third letter and the same length.
+    pub const SHORTEST: usize = 3;
+}
 
 // The name, after a tab.
 pub fn put_name(page: &mut [u8], at: usize, body: Body) -> usize
@@ -28,4 +45,58 @@ pub fn put_name(page: &mut [u8], at: usize, body: Body) -> usize
         Body::Prefetch(_) => put_word(page, at, b"PREFETCH"),
         Body::Noop => put_word(page, at, b"NOOP"),
     }
+}
+
+// Whether this is the name in a row.
+fn is_name(text: &[u8], row: u64) -> bool
+    ensures { λ r. ⌜ r ≡ sameText (now (text .entry)) (nameAt row) ⌝ }
+{
+    let mut page = [0u8; Names::LONGEST];
+    let end = put_name(&mut page, 0, body_of(row, 0, 0, 0, 0));
+    same(text, &page[1..end])
+}
+
+// The only row whose name has this third letter and this length, where there is one.
+fn guess(third: u8, size: usize) -> u64
+    ensures { λ r. ⌜ r ≡ guessOf third size ⌝ }
+{
+    match third {
+        b'R' => Body::MARKER,
+        b'I' => Body::WAIT,
+        b'A' => {
+            if size == 8 {
+                Body::LOAD_CMP
+            } else {
+                Body::LOAD_REPEAT
+            }
+        }
+        b'P' => {
+            if size == Names::SHORTEST {
+                Body::CMP
+            } else {
+                Body::REPEAT
+            }
+        }
+        b'T' => { if size == 4 { Body::GOTO } else { Body::RETURN } }
+        b'L' => Body::CALL,
+        b'N' => Body::SYNC,
+        b'D' => Body::MODULATOR,
+        b'E' => Body::PREFETCH,
+        b'O' => Names::COUNT - 1,
+        _ => Body::WAVEFORM,
+    }
+}
+
+// The row of the table that has this name, or their count where none has it.
+pub fn named(text: &[u8]) -> u64
+    ensures { λ r. ⌜ r ≡ rowNamed (now (text .entry)) ⌝ }
+{
+    if text.len() < Names::SHORTEST {
+        return Names::COUNT;
+    }
+    let row = guess(text[2], text.len());
+    if is_name(text, row) {
+        return row;
+    }
+    Names::COUNT
 }

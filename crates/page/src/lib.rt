@@ -5,7 +5,8 @@ ghost use mathlib.Core.List.{[], _∷_, _++_};
 ghost use Prim.Native.Nat.{_≤_, _<_, _+_, _*_, _%_};
 ghost use lib.ListN.{length, take, drop};
 ghost use Rattle.buffer.specs.Put.{Fits, Put};
-ghost use Rattle.page.specs.Text.{Entry, name, number, letters, digit, decimal, tab, lineFeed, restText};
+ghost use Rattle.text.specs.Cut.{tab, lineFeed};
+ghost use Rattle.text.specs.Line.{Entry, name, number, letters, digit, decimal, restText};
 
 pub fn digit_count(n: u64) -> usize
     ensures { λ r. ⌜ r ≡ length (decimal n) ⌝ }

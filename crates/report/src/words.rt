@@ -1,7 +1,9 @@
 // Words as lines of the listing.
 // A place is told with the word that stands there, and a long trace is cut.
 use instruction::WordAddress;
+use libc::STDOUT_FILENO;
 use listing::Listing;
+use listing_reader::ReadBack;
 use told::say;
 use told::say_number;
 use told::say_pair;
@@ -39,17 +41,33 @@ pub fn say_listing(words: &[u64]) {
     say_words(words);
 }
 
+// The line of a listing that has the word at an address: the header is line 1.
+pub fn line_of(address: u64) -> u64 {
+    std::num::wrapping_add_u64(address, ReadBack::FIRST_LINE)
+}
+
+// Where the words came from a listing, its line, too.
+fn say_line_of(address: u64, before: &[u8], listed: bool) {
+    if listed {
+        say(before);
+        say(b"line ");
+        say_number(line_of(address));
+    }
+    say(b"\n");
+}
+
 // A word past the last is told with the last.
-fn say_past(words: &[u64]) {
-    say(b", past the last, which is\n");
+fn say_past(words: &[u64], listed: bool) {
+    say(b", past the last, which is");
     if words.len() != 0 {
         let last = words.len() - 1;
+        say_line_of(last as u64, b" ", listed);
         say_word(last as u64, words[last]);
     }
 }
 
 // Where it is, and the listing's line of the word there.
-pub fn say_place(words: &[u64], place: WordAddress) {
+pub fn say_place(words: &[u64], place: WordAddress, listed: bool) {
     if words.len() == 0 {
         say(b"\n");
         return;
@@ -58,11 +76,41 @@ pub fn say_place(words: &[u64], place: WordAddress) {
     say_number(place.0);
     let at = place.0 as usize;
     if words.len() <= at {
-        say_past(words);
+        say_past(words, listed);
         return;
     }
-    say(b"\n");
+    say_line_of(place.0, b", ", listed);
     say_word(place.0, words[at]);
+}
+
+// A byte of a line as a person can see it: what is no printing ASCII goes by its number, but a tab.
+fn say_byte(b: u8) {
+    if (b' ' <= b) & (b < 0x7f) | (b == b'\t') {
+        say(&[b]);
+        return;
+    }
+    say(b"\\x");
+    io::print_hex(STDOUT_FILENO, b as u64, 2);
+}
+
+// A line of a text, as it was typed.
+pub fn say_typed(line: &[u8]) {
+    let mut i: usize = 0;
+    while i < line.len() {
+        say_byte(line[i]);
+        i += 1;
+    }
+    say(b"\n");
+}
+
+// Words as text: sixteen hexadecimal digits, a line each.
+pub fn say_hexadecimal(words: &[u64]) {
+    let mut i: usize = 0;
+    while i < words.len() {
+        io::print_hex(STDOUT_FILENO, words[i], 16);
+        say(b"\n");
+        i += 1;
+    }
 }
 
 fn say_rest(n: usize) {

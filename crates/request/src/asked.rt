@@ -2,17 +2,19 @@
 ghost use Prim.Native.Nat.{_<_};
 use instruction::QuadSamples;
 use sequence::Sequence;
+use text::same;
 use told::complaint::complain;
 use told::complaint::complain_number;
 use typed::Amount;
 use typed::number;
-use typed::same;
 
 pub const LIST: u64 = 1;
 
 pub const CHECK: u64 = 2;
 
 pub const RUN: u64 = 3;
+
+pub const WORDS: u64 = 4;
 
 const HEX: u64 = 1;
 
@@ -30,6 +32,8 @@ const TRACE: u64 = 7;
 
 const JSON: u64 = 8;
 
+const OUT: u64 = 9;
+
 // An option that waits for its value is `pending`. A file is told by its place among the arguments; 0 is none. Of several, `file`
 // is the first.
 pub struct Asked {
@@ -39,6 +43,7 @@ pub struct Asked {
     pub several: bool,
     pub messages: usize,
     pub trace: usize,
+    pub out: usize,
     pub hex: bool,
     pub json: bool,
     pub has_wave: bool,
@@ -58,6 +63,9 @@ fn command_named(text: &[u8]) -> u64 {
     }
     if same(text, b"run") {
         return RUN;
+    }
+    if same(text, b"words") {
+        return WORDS;
     }
     0
 }
@@ -92,6 +100,9 @@ fn option_named(text: &[u8]) -> u64 {
     if same(text, b"--trace") {
         return TRACE;
     }
+    if same(text, b"--out") {
+        return OUT;
+    }
     counted_option(text)
 }
 
@@ -102,6 +113,7 @@ fn complain_of_option(option: u64) {
         MESSAGES => complain(b"aps2: --messages"),
         BUDGET => complain(b"aps2: --budget"),
         ROOM => complain(b"aps2: --room"),
+        OUT => complain(b"aps2: --out"),
         _ => complain(b"aps2: --trace"),
     }
 }
@@ -111,13 +123,20 @@ fn is_alone(option: u64) -> bool {
     (option == HEX) | (option == JSON)
 }
 
-// Whether a command has an option: every one reads words and has two ways to tell its answer, all but the listing need a waveform
-// memory, and the others are of a run.
+fn needs_wave(command: u64) -> bool {
+    (command == CHECK) | (command == RUN)
+}
+
+// Whether a command has an option. The words of a listing may go to a file; every other command reads words in two ways and has two ways
+// to tell its answer, check and run need a waveform memory, and the rest are of a run.
 fn has_option(command: u64, option: u64) -> bool {
     if option == 0 {
         return false;
     }
-    is_alone(option) | (option == WAVE) & (command != LIST) | (command == RUN)
+    if (command == WORDS) | (option == OUT) {
+        return (command == WORDS) & (option == OUT);
+    }
+    is_alone(option) | (option == WAVE) & needs_wave(command) | (command == RUN)
 }
 
 fn is_option(text: &[u8]) -> bool {
@@ -149,6 +168,7 @@ impl Asked {
             several: false,
             messages: 0,
             trace: 0,
+            out: 0,
             hex: false,
             json: false,
             has_wave: false,
@@ -255,6 +275,10 @@ impl Asked {
             self.trace = i;
             return self;
         }
+        if option == OUT {
+            self.out = i;
+            return self;
+        }
         self.counted(option, text, most_of(option))
     }
 
@@ -298,7 +322,7 @@ impl Asked {
         if self.file == 0 {
             return self.without_file();
         }
-        if (self.command != LIST) & !self.has_wave {
+        if needs_wave(self.command) & !self.has_wave {
             return self.without_wave();
         }
         self

@@ -1,4 +1,4 @@
--- Laws of numbers and texts as they are typed: digits are read one after the other, and of what is too large only that it is.
+-- Laws of numbers as they are typed: digits are read one after the other, and of what is too large only that it is.
 -- Assumes nothing.
 use Prim.Native.Nat.{ℕ, zero, suc, _+_, _*_, _-_, _≤_, _<_}
 use mathlib.Core.Path.{_≡_, refl, sym, ap, ap₂, _∙_}
@@ -11,12 +11,11 @@ use borrow.Author.Tests.{lt-ltb, le-ltb, leb-true, eq-eqb, ne-eqb}
 use lib.Dec.{leb, eqb}
 use lib.ListN.{length, drop, getD}
 use lib.Seq.{drop-cons}
-use Rattle.typed.specs.Number.{between, isDigit, valueFrom, allDigits, someDigits, atMost, amountOf, sameText, capped}
+use Rattle.text.specs.Number.{between, isDigit, valueFrom, allDigits}
+use Rattle.text.proofs.Alike.{ended}
+use Rattle.typed.specs.Number.{someDigits, atMost, amountOf, capped}
 use Rattle.typed.specs.declared.Amount.the-variants.{Is, NoNumber, TooLarge}
-
-both : (a b : Bool) → (a && b) ≡ true → (a ≡ true) × (b ≡ true)
-both true b e = (refl, e)
-both false b e = (e, cc)
+use Rattle.text.proofs.Bools.{both}
 
 pub in-between : (first last b : ℕ) → between first last b ≡ true → (first ≤ b) × (b ≤ last)
 in-between first last b e =
@@ -97,12 +96,6 @@ module _ (most : ℕ) (text : List ℕ) (value i : ℕ) (h : i < length text) (r
   pub read-none : isDigit b ≡ false → NoNumber ≡ amountOf most text
   read-none e = rw (r .digits ∙ ap allDigits rest ∙ ap (λ (t : Bool). t && allDigits (drop (i + 1) text)) e)
 
-pub ended : (text : List ℕ) (i : ℕ) → length text ≤ i → drop i text ≡ []
-ended [] zero h = refl
-ended [] (suc i) h = refl
-ended (x ∷ xs) zero h = absurd (omega arith)
-ended (x ∷ xs) (suc i) h = ended xs i (omega arith)
-
 module _ (most : ℕ) (text : List ℕ) (value i : ℕ) (h : length text ≤ i) (r : Read most text value i) where
   said : capped most value ≡ capped most (valueFrom 0 text)
   said = ap (λ (l : List ℕ). capped most (valueFrom value l)) (sym (ended text i h)) ∙ r .said
@@ -132,30 +125,3 @@ module _ (most : ℕ) (text : List ℕ) (value i : ℕ) (h : length text ≤ i) 
 pub read-empty : (most : ℕ) (text : List ℕ) → length text ≡ 0 → NoNumber ≡ amountOf most text
 read-empty most [] h = refl
 read-empty most (b ∷ bs) h = absurd (omega arith)
-
--- ---- the same text
-
-pub same-sizes : (a b : List ℕ) → (length a ≡ length b → ⊥) → sameText a b ≡ false
-same-sizes [] [] h = absurd (h refl)
-same-sizes [] (y ∷ ys) h = refl
-same-sizes (x ∷ xs) [] h = refl
-same-sizes (x ∷ xs) (y ∷ ys) h = ap (λ (t : Bool). eqb x y && t) (same-sizes xs ys (λ e. h (ap suc e))) ∙ never (eqb x y)
-  where
-    never : (t : Bool) → (t && false) ≡ false
-    never true = refl
-    never false = refl
-
-module _ (a b : List ℕ) (i : ℕ) (k : i < length a) (l : i < length b) where
-  steps : sameText (drop i a) (drop i b) ≡ (eqb (getD a i 0) (getD b i 0) && sameText (drop (i + 1) a) (drop (i + 1) b))
-  steps =
-      ap₂ sameText (drop-cons a i 0 k) (drop-cons b i 0 l)
-      ∙ ap (λ (j : ℕ). eqb (getD a i 0) (getD b i 0) && sameText (drop j a) (drop j b)) (sym (add-one i))
-
-  pub same-next : getD a i 0 ≡ getD b i 0 → sameText (drop (i + 1) a) (drop (i + 1) b) ≡ sameText (drop i a) (drop i b)
-  same-next e = sym (steps ∙ ap (λ (t : Bool). t && sameText (drop (i + 1) a) (drop (i + 1) b)) (eq-eqb (getD a i 0) (getD b i 0) e))
-
-  pub same-not : (getD a i 0 ≡ getD b i 0 → ⊥) → sameText (drop i a) (drop i b) ≡ false
-  same-not e = steps ∙ ap (λ (t : Bool). t && sameText (drop (i + 1) a) (drop (i + 1) b)) (ne-eqb (getD a i 0) (getD b i 0) e)
-
-pub same-all : (a b : List ℕ) (i : ℕ) → length a ≤ i → length b ≤ i → sameText (drop i a) (drop i b) ≡ true
-same-all a b i k l = ap₂ sameText (ended a i k) (ended b i l)

@@ -6,30 +6,18 @@ use mathlib.Core.Bool.{Bool, true, false, not, _&&_, _||_}
 use mathlib.Core.List.{List, [], _∷_, _++_}
 use native.Mathlib.Omega.{arith}
 use native.Mathlib.Nat.{mod-lt, mod-eq-of-lt, pow-suc, div-div-eq-div-mul, div-le-self, div-one, div-eq-of-lt, lt-of-le-of-lt}
-use native.Mathlib.Decide.{ℕ-discrete}
 use borrow.Author.Tests.{lt-ltb, le-ltb, lt-leb, eq-eqb, ne-eqb, eqb-true, not-true}
 use lib.Dec.{eqb}
 use lib.ListN.{length}
 use Rattle.instruction.specs.Bits.{pick}
-use Rattle.typed.specs.Words.{isWhite, lineFeed, hash, hexDigit, past, start, skipped, hexGrown, onward, digitOn, textOn, byteOn, newWord, takenOf, wordsOf, hexLetter, lastDigits, hexText, AreWords, HexReadsBack}
+use Rattle.text.specs.Cut.{lineFeed}
+use Rattle.text.proofs.Below.{all-below}
+use Rattle.typed.specs.Words.{isWhite, hash, hexDigit, past, start, skipped, hexGrown, onward, digitOn, textOn, byteOn, newWord, takenOf, wordsOf, hexLetter, lastDigits, hexText, AreWords, HexReadsBack}
 use Rattle.typed.specs.declared.Spelling.the-variants.{Hex}
 use Rattle.typed.specs.declared.Taken.{Taken}
 use Rattle.typed.proofs.Words.{text-parted, text-digit, no-word, one-word, taken-pieces, words-pieces}
 
 -- ---- sixteen letters, by computation
-
-abbrev allBelow : ℕ → (ℕ → Bool) → Bool
-allBelow zero test = true
-allBelow (suc n) test = test n && allBelow n test
-
-all-below : (n : ℕ) (test : ℕ → Bool) → allBelow n test ≡ true → (k : ℕ) → k < n → test k ≡ true
-all-below zero test e k h = absurd (omega arith)
-all-below (suc n) test e k h = by (test n) (allBelow n test) e refl refl (ℕ-discrete k n) (λ q l. all-below n test q k l)
-  where
-    by : (a b : Bool) → (a && b) ≡ true → test n ≡ a → allBelow n test ≡ b → Dec (k ≡ n) → (allBelow n test ≡ true → k < n → test k ≡ true) → test k ≡ true
-    by true b e p q (yes i) ih = ap test i ∙ p
-    by true b e p q (no i) ih = ih (q ∙ e) (omega arith)
-    by false b e p q d ih = cc
 
 letter-digit : (d : ℕ) → d < 16 → hexDigit (hexLetter d) ≡ d
 letter-digit d h = eqb-true (hexDigit (hexLetter d)) d (all-below 16 (λ k. eqb (hexDigit (hexLetter k)) k) refl d h)

@@ -16,12 +16,14 @@ use Rattle.instruction.specs.Bits.{pick}
 use Rattle.instruction.specs.Word.{byteSpan}
 use Rattle.buffer.specs.Put.{put}
 use Rattle.buffer.proofs.Laws.{put-none, put-put, length-put}
-use Rattle.typed.specs.Number.{between, isDigit}
-use Rattle.typed.specs.Words.{isWhite, lineFeed, hash, troubled, skipped, grown, CanGrow, hexDigit, past, isPart, wordDigits, partedBy, digitOn, textOn, rawOn, comma, decimalGrown, decimalOn, spelledOn, byteOn, newWord, takenOf, wordsOf, Takes, TakesOne}
+use Rattle.text.specs.Number.{between, isDigit}
+use Rattle.text.specs.Cut.{lineFeed}
+use Rattle.typed.specs.Words.{isWhite, hash, troubled, skipped, grown, CanGrow, hexDigit, past, isPart, wordDigits, partedBy, digitOn, textOn, rawOn, comma, decimalGrown, decimalOn, spelledOn, byteOn, newWord, takenOf, wordsOf, Takes, TakesOne}
 use Rattle.typed.specs.declared.Spelling.{Spelling}
 use Rattle.typed.specs.declared.Spelling.the-variants.{Hex, Raw, Decimal}
 use Rattle.typed.specs.declared.Taken.{Taken}
-use Rattle.typed.proofs.Numbers.{in-between, ended}
+use Rattle.typed.proofs.Numbers.{in-between}
+use Rattle.text.proofs.Alike.{ended}
 
 either : {A : Type 0} (P : A → Type 0) (t : Bool) {a b : A} → P a → P b → P (pick t a b)
 either P true p q = p

@@ -9,16 +9,14 @@ use lib.ListN.{length}
 use Rattle.instruction.specs.Bits.{pick, _gives_else_}
 use Rattle.instruction.specs.Word.{wordBytes, byteSpan}
 use Rattle.buffer.specs.Put.{put}
-use Rattle.typed.specs.Number.{between, isDigit}
+use Rattle.text.specs.Cut.{lineFeed}
+use Rattle.text.specs.Number.{between, isDigit}
 use Rattle.typed.specs.declared.Spelling.{Spelling}
 use Rattle.typed.specs.declared.Spelling.the-variants.{Hex, Raw, Decimal}
 use Rattle.typed.specs.declared.Place.{Place}
 use Rattle.typed.specs.declared.Taken.{Taken}
 
 -- ---- letters
-
-abbrev pub lineFeed : ℕ
-lineFeed = 10
 
 -- "#"
 abbrev pub hash : ℕ

@@ -4,11 +4,12 @@ ghost use mathlib.Core.Path.{_≡_};
 ghost use mathlib.Core.Bool.{true};
 ghost use Prim.Native.Nat.{_+_, _*_, _-_, _^_, _<_};
 ghost use Rattle.instruction.specs.Word.{wordBytes};
-ghost use Rattle.typed.specs.Number.{between, isDigit, amountOf, sameText, capped};
+ghost use Rattle.text.specs.Number.{between, isDigit};
+ghost use Rattle.typed.specs.Number.{amountOf, capped};
 ghost use Rattle.typed.specs.Words.{isWhite, hexDigit, later, past, start, troubled, skipped, grown, onward, isPart, partedBy, digitOn, textOn, rawOn, closedOn, decimalDigitOn, decimalOn, byteAt, rawBytes, byteOn, CanGrow, Takes, TakesOne, troubleOf};
 use instruction::Instruction;
 
-// ---- Texts and numbers.
+// ---- Numbers.
 
 fn between(first: u8, last: u8, b: u8) -> bool
     ensures { λ r. ⌜ r ≡ between first last b ⌝ }
@@ -62,23 +63,6 @@ pub fn number(text: &[u8], most: u32) -> Amount
         return Amount::TooLarge;
     }
     Amount::Is(value)
-}
-
-// Whether two texts are the same.
-pub fn same(a: &[u8], b: &[u8]) -> bool
-    ensures { λ r. ⌜ r ≡ sameText (now (a .entry)) (now (b .entry)) ⌝ }
-{
-    if a.len() != b.len() {
-        return false;
-    }
-    let mut i: usize = 0;
-    while i < a.len() {
-        if a[i] != b[i] {
-            return false;
-        }
-        i += 1;
-    }
-    true
 }
 
 // ---- Words.

@@ -13,6 +13,10 @@ use Rattle.writer.specs.declared.Written.{Written}
 unfoldable pub askedOf : Instruction → ℕ
 askedOf i = not (fitsOf i) gives 23 else formOf i
 
--- "each with word zero"; "A word written has number 0"
+-- "each with word zero"
+abbrev pub notWritten : ℕ → Written
+notWritten number = record { number = number; word = 0 }
+
+-- "A word written has number 0"
 unfoldable pub writtenOf : Instruction → Written
 writtenOf i = record { number = askedOf i; word = pick (eqb (askedOf i) 0) (wordOf i) 0 }

@@ -1,4 +1,4 @@
--- As many words as were found.
+-- As many words as were found, or as much of a line.
 use mathlib.Core.Path.{sym}
 use native.Mathlib.Omega.{arith}
 use lib.Seq.{length-take-le}
@@ -9,11 +9,17 @@ use Rattle.aps2.proofs.serve.Tie as tie
 for-words-requires : tie.Need-for-words-requires
 for-words-requires c κs = search needs
 
-slice-aggregate-words-of : tie.Need-slice-aggregate-words-of
-slice-aggregate-words-of c = search needs
+buffer-requires : tie.Need-buffer-requires
+buffer-requires c κs = search needs
 
-words-of-requires : tie.Need-words-of-requires
-words-of-requires c κs = search needs
+slice-aggregate-find : tie.Need-slice-aggregate-find
+slice-aggregate-find c = search needs
+
+slice-aggregate-find-2 : tie.Need-slice-aggregate-find-2
+slice-aggregate-find-2 c = search needs
+
+find-requires : tie.Need-find-requires
+find-requires c κs = search needs
 
 without-words-requires : tie.Need-without-words-requires
 without-words-requires c κs = search needs
@@ -21,14 +27,14 @@ without-words-requires c κs = search needs
 returns : tie.Need-returns
 returns c = search needs
 
-array-share-prefix-words : tie.Need-array-share-prefix-words
-array-share-prefix-words c = search needs
+array-share-prefix-line : tie.Need-array-share-prefix-line
+array-share-prefix-line c = search needs
 
-slice-aggregate-give : tie.Need-slice-aggregate-give
-slice-aggregate-give c = sym (length-take-le (c .before .before .before .before .before .words-of .result .count) (c .before .before .before .before .before .words-of .last .1 .1 .0) (omega (arith, c .before .if2 .taken, c .before .before .before .before .before .words-of .kept .1 .1 .0)))
+slice-aggregate-refused-listing : tie.Need-slice-aggregate-refused-listing
+slice-aggregate-refused-listing c = sym (length-take-le (c .before .before .before .before .before .before .before .before .before .find .result .shown) (c .before .before .before .before .before .before .before .before .before .find .last .1 .1 .0) (omega (arith, c .before .if3 .taken, c .before .before .before .before .before .before .before .before .before .find .kept .1 .1 .0)))
 
-give-requires : tie.Need-give-requires
-give-requires c κs = search needs
+refused-listing-requires : tie.Need-refused-listing-requires
+refused-listing-requires c κs = search needs
 
 returns-2 : tie.Need-returns-2
 returns-2 c = search needs
@@ -36,17 +42,39 @@ returns-2 c = search needs
 returns-3 : tie.Need-returns-3
 returns-3 c = search needs
 
+array-share-prefix-words : tie.Need-array-share-prefix-words
+array-share-prefix-words c = search needs
+
+slice-aggregate-give : tie.Need-slice-aggregate-give
+slice-aggregate-give c = sym (length-take-le (c .before .before .before .before .before .before .before .before .find .result .count) (c .before .before .before .before .before .before .before .before .find .last .1 .0) (omega (arith, c .before .if4 .taken, c .before .before .before .before .before .before .before .before .find .kept .1 .0)))
+
+give-requires : tie.Need-give-requires
+give-requires c κs = search needs
+
+returns-4 : tie.Need-returns-4
+returns-4 c = search needs
+
+returns-5 : tie.Need-returns-5
+returns-5 c = search needs
+
 pub serve-spec : {M : Type 1} → statement M
 serve-spec =
     tie.close
     (tie.spec
     for-words-requires
-    slice-aggregate-words-of
-    words-of-requires
+    buffer-requires
+    slice-aggregate-find
+    slice-aggregate-find-2
+    find-requires
     without-words-requires
     returns
+    array-share-prefix-line
+    slice-aggregate-refused-listing
+    refused-listing-requires
+    returns-2
+    returns-3
     array-share-prefix-words
     slice-aggregate-give
     give-requires
-    returns-2
-    returns-3)
+    returns-4
+    returns-5)

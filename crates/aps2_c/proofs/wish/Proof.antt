@@ -22,9 +22,21 @@ element-copy-out-engine c = search needs
 element-copy-out-flag : tie.Need-element-copy-out-flag
 element-copy-out-flag c = search needs
 
+element-copy-out-body-of : tie.Need-element-copy-out-body-of
+element-copy-out-body-of c = search needs
+
+element-copy-out-body-of-2 : tie.Need-element-copy-out-body-of-2
+element-copy-out-body-of-2 c = search needs
+
+element-copy-out-body-of-3 : tie.Need-element-copy-out-body-of-3
+element-copy-out-body-of-3 c = search needs
+
+element-copy-out-body-of-4 : tie.Need-element-copy-out-body-of-4
+element-copy-out-body-of-4 c = search needs
+
 -- the fields lent, where the last of them was judged
 abbrev fieldsAt : tie.After-filled-past → List ℕ
-fieldsAt d = now (d .before .before .before .before .before .before .args .fields)
+fieldsAt d = now (d .before .before .before .before .before .before .before .before .before .before .args .fields)
 
 past : (d : tie.After-filled-past) → filledPast false (length (numbersOf (asked (fieldsAt d) .body))) 0 (valuesAsked (fieldsAt d)) ≡ d .filled-past .result
 past d =
@@ -86,6 +98,10 @@ wish-spec =
     element-copy-out-code
     element-copy-out-engine
     element-copy-out-flag
+    element-copy-out-body-of
+    element-copy-out-body-of-2
+    element-copy-out-body-of-3
+    element-copy-out-body-of-4
     body-of-requires
     shown-count-requires
     filled-past-requires

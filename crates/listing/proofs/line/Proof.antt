@@ -5,17 +5,13 @@ use native.Mathlib.Nat.{zero-add}
 use native.Mathlib.Omega.{arith}
 use lib.ListN.{length, replicate}
 use Rattle.reader.specs.Reading.{readingOf}
-use Rattle.page.specs.Text.{number, lineText}
+use Rattle.text.specs.Line.{number, lineText}
 use Rattle.listing.specs.Listing.{entriesIn, lineSize}
 use Rattle.listing.proofs.Lines.{listed-not, listed-whole}
 use Rattle.listing.proofs.Room.{line-short}
 use borrow.Author.Needs.{needs}
 use Rattle.listing.proofs.line.Statement.{statement}
 use Rattle.listing.proofs.line.Tie as tie
-use Rattle.listing.proofs.line.Reads as reads
-use Rattle.listing.proofs.line.Lts as lts
-use Rattle.listing.proofs.hand_over.Reads as hand-over-reads
-use Rattle.listing.proofs.put_line.Reads as put-line-reads
 
 slice-aggregate-put-line : tie.Need-slice-aggregate-put-line
 slice-aggregate-put-line c = search needs

@@ -1,6 +1,7 @@
 -- The name BAD, and the number.
 use mathlib.Core.List.{[], _∷_}
-use Rattle.page.specs.Text.{number, letters, tab, restText}
+use Rattle.text.specs.Cut.{tab}
+use Rattle.text.specs.Line.{number, letters, restText}
 use Rattle.buffer.proofs.Laws.{fits-first, fits-next, puts-both}
 use borrow.Author.Needs.{needs}
 use Rattle.listing.proofs.put_bad.Statement.{statement}

@@ -3,7 +3,7 @@ use mathlib.Core.Path.{subst}
 use mathlib.Core.List.{map}
 use Rattle.instruction.specs.declared.Body.{Body}
 use Rattle.buffer.specs.Put.{Fits}
-use Rattle.page.specs.Text.{number, restText}
+use Rattle.text.specs.Line.{number, restText}
 use Rattle.listing.specs.Listing.{shownOf}
 use borrow.Author.Needs.{needs}
 use Rattle.listing.proofs.put_fields.Statement.{statement}

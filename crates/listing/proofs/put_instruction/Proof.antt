@@ -6,7 +6,8 @@ use Rattle.instruction.specs.Bits.{pick}
 use Rattle.instruction.specs.Table.{isNoop}
 use Rattle.buffer.specs.Put.{Fits, Put}
 use Rattle.buffer.proofs.Laws.{fits-first, fits-next, puts-both}
-use Rattle.page.specs.Text.{number, letters, decimal, tab, restText}
+use Rattle.text.specs.Cut.{tab}
+use Rattle.text.specs.Line.{number, letters, decimal, restText}
 use Rattle.names.specs.Names.{nameOf}
 use Rattle.listing.specs.Listing.{shownOf}
 use Rattle.listing.proofs.Lines.{noop-line, other-line}

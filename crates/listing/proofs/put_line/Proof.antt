@@ -4,7 +4,7 @@ use Rattle.reader.specs.Reading.{readingOf}
 use Rattle.reader.specs.declared.Reading.{Reading}
 use Rattle.reader.proofs.Laws.{put-together}
 use Rattle.buffer.specs.Put.{Fits, Put}
-use Rattle.page.specs.Text.{decimal, restText}
+use Rattle.text.specs.Line.{decimal, restText}
 use Rattle.listing.specs.Listing.{entriesIn}
 use Rattle.buffer.proofs.Laws.{fits-first, fits-next, puts-both}
 use borrow.Author.Needs.{needs}

@@ -3,7 +3,7 @@ use Prim.Native.Nat.{ℕ}
 use mathlib.Core.Path.{sym, subst}
 use Rattle.reader.specs.Reading.{readingOf}
 use Rattle.buffer.specs.Put.{Fits, Put}
-use Rattle.page.specs.Text.{number, lineText}
+use Rattle.text.specs.Line.{number, lineText}
 use Rattle.listing.specs.Listing.{entriesIn}
 use Prim.Native.Nat.{_-_}
 use native.Mathlib.Omega.{arith}

@@ -1,6 +1,6 @@
 -- A name, and the number.
 use mathlib.Core.List.{[], _∷_}
-use Rattle.page.specs.Text.{number, restText}
+use Rattle.text.specs.Line.{number, restText}
 use Rattle.buffer.proofs.Laws.{fits-first, fits-next, puts-both}
 use borrow.Author.Needs.{needs}
 use Rattle.listing.proofs.put_pair.Statement.{statement}

@@ -2,7 +2,7 @@
 use mathlib.Core.Path.{subst}
 use Rattle.reader.specs.declared.Reading.{Reading}
 use Rattle.buffer.specs.Put.{Fits}
-use Rattle.page.specs.Text.{restText}
+use Rattle.text.specs.Line.{restText}
 use Rattle.listing.specs.Listing.{entriesIn}
 use borrow.Author.Needs.{needs}
 use Rattle.listing.proofs.put_reading.Statement.{statement}

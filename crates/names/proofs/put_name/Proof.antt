@@ -3,7 +3,8 @@ use mathlib.Core.Path.{subst}
 use mathlib.Core.List.{_∷_}
 use Rattle.instruction.specs.declared.Body.{Body}
 use Rattle.buffer.specs.Put.{Fits}
-use Rattle.page.specs.Text.{letters, tab}
+use Rattle.text.specs.Cut.{tab}
+use Rattle.text.specs.Line.{letters}
 use Rattle.names.specs.Names.{nameOf}
 use borrow.Author.Needs.{needs}
 use Rattle.names.proofs.put_name.Statement.{statement}

@@ -9,8 +9,14 @@ use Rattle.aps2.proofs.several.check_file.Tie as tie
 for-words-requires : tie.Need-for-words-requires
 for-words-requires c κs = search needs
 
+buffer-requires : tie.Need-buffer-requires
+buffer-requires c κs = search needs
+
 slice-aggregate-words-of : tie.Need-slice-aggregate-words-of
 slice-aggregate-words-of c = search needs
+
+slice-aggregate-words-of-2 : tie.Need-slice-aggregate-words-of-2
+slice-aggregate-words-of-2 c = search needs
 
 words-of-requires : tie.Need-words-of-requires
 words-of-requires c κs = search needs
@@ -21,32 +27,42 @@ say-no-answer-requires c κs = search needs
 returns : tie.Need-returns
 returns c = search needs
 
-array-share-prefix-words : tie.Need-array-share-prefix-words
-array-share-prefix-words c = search needs
-
-slice-aggregate-judge : tie.Need-slice-aggregate-judge
-slice-aggregate-judge c = sym (length-take-le (c .before .before .before .before .before .words-of .result .count) (c .before .before .before .before .before .words-of .last .1 .1 .0) (omega (arith, c .before .if2 .taken, c .before .before .before .before .before .words-of .kept .1 .1 .0)))
-
-judge-requires : tie.Need-judge-requires
-judge-requires c κs = search needs
+say-refused-listing-requires : tie.Need-say-refused-listing-requires
+say-refused-listing-requires c κs = search needs
 
 returns-2 : tie.Need-returns-2
 returns-2 c = search needs
 
+array-share-prefix-words : tie.Need-array-share-prefix-words
+array-share-prefix-words c = search needs
+
+slice-aggregate-judge : tie.Need-slice-aggregate-judge
+slice-aggregate-judge c = sym (length-take-le (c .before .before .before .before .before .before .before .before .words-of .result .count) (c .before .before .before .before .before .before .before .before .words-of .last .1 .1 .0) (omega (arith, c .before .if3 .taken, c .before .before .before .before .before .before .before .before .words-of .kept .1 .1 .0)))
+
+judge-requires : tie.Need-judge-requires
+judge-requires c κs = search needs
+
 returns-3 : tie.Need-returns-3
 returns-3 c = search needs
+
+returns-4 : tie.Need-returns-4
+returns-4 c = search needs
 
 pub check-file-spec : {M : Type 1} → statement M
 check-file-spec =
     tie.close
     (tie.spec
     for-words-requires
+    buffer-requires
     slice-aggregate-words-of
+    slice-aggregate-words-of-2
     words-of-requires
     say-no-answer-requires
     returns
+    say-refused-listing-requires
+    returns-2
     array-share-prefix-words
     slice-aggregate-judge
     judge-requires
-    returns-2
-    returns-3)
+    returns-3
+    returns-4)

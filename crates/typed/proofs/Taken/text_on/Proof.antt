@@ -3,7 +3,8 @@ use mathlib.Core.Bool.{Bool, not, _||_}
 use lib.Dec.{eqb}
 use mathlib.Core.Path.{sym, ap, _∙_}
 use Rattle.typed.specs.declared.Place.{Place}
-use Rattle.typed.specs.Words.{hash, skipped, lineFeed}
+use Rattle.text.specs.Cut.{lineFeed}
+use Rattle.typed.specs.Words.{hash, skipped}
 use Rattle.typed.proofs.Words.{digit-small, text-comment, text-parted, text-none, text-digit}
 use borrow.Author.Needs.{needs}
 use Rattle.typed.proofs.Taken.text_on.Statement.{statement}

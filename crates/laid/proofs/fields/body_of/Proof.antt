@@ -1,23 +1,9 @@
 -- Each arm of the match is an entry of the list of bodies; a code that is none lies past its end.
 use mathlib.Core.Path.{sym}
-use denote.Ref.{now}
+use mathlib.Core.List.{[], _∷_}
 use Rattle.instruction.proofs.Laws.{body-past}
-use Rattle.aps2_c.specs.Fields.{valuesAsked}
-use borrow.Author.Needs.{needs}
-use Rattle.aps2_c.proofs.body_of.Statement.{statement}
-use Rattle.aps2_c.proofs.body_of.Tie as tie
-
-element-copy-out-a : tie.Need-element-copy-out-a
-element-copy-out-a c = search needs
-
-element-copy-out-b : tie.Need-element-copy-out-b
-element-copy-out-b c = search needs
-
-element-copy-out-c : tie.Need-element-copy-out-c
-element-copy-out-c c = search needs
-
-element-copy-out-d : tie.Need-element-copy-out-d
-element-copy-out-d c = search needs
+use Rattle.laid.proofs.fields.body_of.Statement.{statement}
+use Rattle.laid.proofs.fields.body_of.Tie as tie
 
 returns : tie.Need-returns
 returns c = rw (c .match .keys1)
@@ -59,16 +45,12 @@ returns-13 : tie.Need-returns-13
 returns-13 c = rw (c .match .keys13)
 
 returns-14 : tie.Need-returns-14
-returns-14 c = sym (body-past (valuesAsked (now (c .before .before .before .before .before .args .fields))) (c .match .rest))
+returns-14 c = sym (body-past (c .before .args .a ∷ c .before .args .b ∷ c .before .args .c ∷ c .before .args .d ∷ []) (c .match .rest))
 
 pub body-of-spec : {M : Type 1} → statement M
 body-of-spec =
     tie.close
     (tie.spec
-    element-copy-out-a
-    element-copy-out-b
-    element-copy-out-c
-    element-copy-out-d
     returns
     returns-2
     returns-3

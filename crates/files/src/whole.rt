@@ -1,0 +1,51 @@
+// All bytes of a file or of standard input, as far as there is room for them.
+// They come in pieces of any size.
+ghost use Prim.Native.Nat.{_≤_};
+ghost use lib.ListN.{length};
+
+// How many bytes are kept, whether there are more, and whether they could be read.
+pub struct Kept {
+    pub count: usize,
+    pub more: bool,
+    pub failed: bool,
+}
+
+fn read_on(fd: i32, text: &mut [u8], at: usize) -> Kept
+    requires { ⌜ at ≤ length (now text) ⌝ }
+    ensures { λ r. ⌜ r .count ≤ length (now (text .exit)) ⌝ }
+{
+    let got = libc::read(fd, &mut text[at..]);
+    let n = io::count(got, &text[at..]);
+    Kept {
+        count: at + n,
+        more: n != 0,
+        failed: got < 0,
+    }
+}
+
+// Whether anything follows.
+fn has_more(fd: i32) -> bool {
+    let mut next = io::buffer();
+    let got = libc::read(fd, &mut next[..1]);
+    0 < got
+}
+
+// A proved loop has to end, and nothing says that an input does; so it counts its turns down from a number that no run uses up.
+pub fn read_text(fd: i32, text: &mut [u8]) -> Kept
+    ensures { λ r. ⌜ r .count ≤ length (now (text .exit)) ⌝ }
+{
+    let mut kept = Kept {
+        count: 0,
+        more: true,
+        failed: false,
+    };
+    let mut turns = u64::MAX;
+    while turns > 0 && kept.more && kept.count < text.len() {
+        kept = read_on(fd, text, kept.count);
+        turns -= 1;
+    }
+    if kept.more {
+        kept.more = has_more(fd);
+    }
+    kept
+}

@@ -1,0 +1,306 @@
+-- Laws of a line's fields: numbers gathered one after the other, and what a line is read as once its fields are known.
+-- Assumes nothing.
+use Prim.Native.Nat.{ℕ, zero, suc, _+_, _-_, _≤_, _<_}
+use mathlib.Core.Path.{_≡_, refl, sym, ap, ap₂, _∙_}
+use mathlib.Core.Bool.{Bool, true, false, not, _||_, _&&_}
+use mathlib.Core.List.{List, [], _∷_, _++_, map, append-assoc, append-nil}
+use native.Mathlib.Omega.{arith}
+use native.Mathlib.Decide.{ℕ-discrete, decLt}
+use borrow.Author.Tests.{eq-eqb, ne-eqb, eqb-true, leb-true, le-leb, lt-leb, lt-ltb, le-ltb}
+use lib.Dec.{ltb, eqb, leb}
+use lib.ListN.{length, getD, set, take, drop, length-append}
+use lib.Seq.{getD-drop}
+use Rattle.instruction.specs.Bits.{pick}
+use Rattle.instruction.specs.Table.{bodyOf}
+use Rattle.instruction.specs.declared.Instruction.{Instruction}
+use Rattle.instruction.specs.declared.Body.{Body}
+use Rattle.buffer.specs.Put.{put}
+use Rattle.buffer.proofs.Laws.{put-none, length-put, put-more, put-front}
+use Rattle.text.specs.Cut.{tab, cut, Row, fieldsIn, placeOf, fieldsAfter}
+use Rattle.text.specs.Number.{value, isNumber, fieldAt, countedAt}
+use Rattle.text.specs.declared.Counted.{Counted}
+use Rattle.text.proofs.Below.{allBelow, all-below}
+use Rattle.text.proofs.Cuts.{cut-first, found-order, found-inside, found-piece}
+use Rattle.text.proofs.Back.{number-said, number-not}
+use Rattle.text.proofs.Rows.{after-last, after-next, field-next}
+use Rattle.names.specs.Names.{nameCount, rowNamed}
+use Rattle.listing.specs.Listing.{entriesOf}
+use Rattle.writer.specs.Writing.{notWritten, writtenOf}
+use Rattle.writer.specs.declared.Written.{Written}
+use Rattle.listing_reader.specs.ReadBack.{instructionOf, allNumbers, hasFields, fieldsRead, lineRead, fieldCount, knownRead, NumbersRead}
+use Rattle.text.proofs.Bools.{never, and-false}
+
+-- ---- numbers, one after the other
+
+all-join : (xs ys : List (List ℕ)) → allNumbers (xs ++ ys) ≡ (allNumbers xs && allNumbers ys)
+all-join [] ys = refl
+all-join (x ∷ xs) ys = by (isNumber x) (all-join xs ys)
+  where
+    by : (t : Bool) → allNumbers (xs ++ ys) ≡ (allNumbers xs && allNumbers ys) → (t && allNumbers (xs ++ ys)) ≡ ((t && allNumbers xs) && allNumbers ys)
+    by true ih = ih
+    by false ih = refl
+
+values-join : (xs ys : List (List ℕ)) → map value (xs ++ ys) ≡ map value xs ++ map value ys
+values-join [] ys = refl
+values-join (x ∷ xs) ys = ap (λ (l : List ℕ). value x ∷ l) (values-join xs ys)
+
+values-length : (xs : List (List ℕ)) → length (map value xs) ≡ length xs
+values-length [] = refl
+values-length (x ∷ xs) = ap suc (values-length xs)
+
+-- k numbers stand in front of place `at`, and their values are laid
+pub record Gathered (line : List ℕ) (from count : ℕ) (before values : List ℕ) (at k : ℕ) : Type 0 where
+  pub inside : at ≤ length line
+  pub few : k ≤ count
+  pub done : List (List ℕ)
+  pub size : length done ≡ k
+  pub good : allNumbers done ≡ true
+  pub fields : fieldsAfter from line ≡ done ++ fieldsAfter at line
+  pub wrote : values ≡ put before 0 (map value done)
+
+refuted : {count : ℕ} {fs : List (List ℕ)} {before after : List ℕ} → (eqb (length fs) count && allNumbers fs) ≡ false → NumbersRead count fs before after false
+refuted e = record { test = sym e; values = λ t. never (sym t) }
+
+module _ (line : List ℕ) (from count : ℕ) (before : List ℕ) (h : from ≤ length line) (l : count ≤ length before) where
+  pub gather-start : Gathered line from count before before from 0
+  gather-start = record { inside = h; few = omega arith; done = []; size = refl; good = refl; fields = refl; wrote = sym (put-none before 0) }
+
+  module _ {values : List ℕ} {at k : ℕ} (g : Gathered line from count before values at k) where
+    pub gather-length : length values ≡ length before
+    gather-length = ap length (g .wrote) ∙ length-put before (map value (g .done)) 0 (omega (arith, l, g .few, g .size, values-length (g .done)))
+
+    all-there : length line ≤ at → fieldsAfter from line ≡ g .done
+    all-there e = g .fields ∙ ap (λ (fs : List (List ℕ)). g .done ++ fs) (after-last line at e) ∙ append-nil (g .done)
+
+    -- there is none any more
+    pub gather-few : k < count → length line ≤ at → NumbersRead count (fieldsAfter from line) before values false
+    gather-few m e = refuted (ap (λ (t : Bool). t && allNumbers (fieldsAfter from line)) (ne-eqb (length (fieldsAfter from line)) count (λ q. omega (arith, q, ap length (all-there e), g .size))))
+
+    module _ (e : at < length line) {r : Counted} (n : r ≡ countedAt (at + 1) line) where
+      abbrev field : List ℕ
+      field = fieldAt (at + 1) line
+
+      abbrev rest : List (List ℕ)
+      rest = fieldsAfter (placeOf tab (at + 1) line) line
+
+      next : fieldsAfter from line ≡ g .done ++ (field ∷ rest)
+      next =
+          g .fields
+          ∙ ap (λ (fs : List (List ℕ)). g .done ++ fs)
+          (after-next line at e refl ∙ ap (λ (p : List ℕ). p ∷ rest) (found-piece tab (at + 1) line refl))
+
+      -- the next is no number
+      pub gather-not : r .plain ≡ false → NumbersRead count (fieldsAfter from line) before values false
+      gather-not p =
+          refuted
+          (ap (λ (t : Bool). eqb (length (fieldsAfter from line)) count && t)
+          (ap allNumbers next ∙ all-join (g .done) (field ∷ rest)
+          ∙ ap (λ (t : Bool). allNumbers (g .done) && (t && allNumbers rest)) (number-not (at + 1) line n p) ∙ and-false (allNumbers (g .done)))
+          ∙ and-false (eqb (length (fieldsAfter from line)) count))
+
+      -- the next is one
+      module _ (p : r .plain ≡ true) where
+        said : (isNumber field ≡ true) × (r .value ≡ value field) × (r .end ≡ placeOf tab (at + 1) line)
+        said = number-said (at + 1) line n p
+
+        pub gather-next : k < count → Gathered line from count before (set values k (r .value)) (r .end) (k + 1)
+        gather-next m =
+            record {
+              inside = found-inside tab (at + 1) line (said .2) (omega arith);
+              few = omega arith;
+              done = g .done ++ (field ∷ []);
+              size = length-append (g .done) (field ∷ []) ∙ ap (λ (i : ℕ). i + 1) (g .size);
+              good = all-join (g .done) (field ∷ []) ∙ rw (g .good, said .0);
+              fields = next ∙ sym (append-assoc (g .done) (field ∷ []) rest) ∙ ap (λ (i : ℕ). (g .done ++ (field ∷ [])) ++ fieldsAfter i line) (sym (said .2));
+              wrote =
+                  ap₂ (λ (t : List ℕ) (i : ℕ). set t i (r .value)) (g .wrote) (place (length (map value (g .done))) k (values-length (g .done) ∙ g .size))
+                  ∙ put-more before (map value (g .done)) 0 (r .value) (omega (arith, l, values-length (g .done), g .size))
+                  ∙ ap (λ (x : ℕ). put before 0 (map value (g .done) ++ (x ∷ []))) (said .1)
+                  ∙ ap (put before 0) (sym (values-join (g .done) (field ∷ [])));
+            }
+          where
+            place : (a b : ℕ) → a ≡ b → b ≡ 0 + a
+            place a b e = omega arith
+
+    -- enough of them: nothing may follow
+    pub gather-end : count ≤ k → NumbersRead count (fieldsAfter from line) before values (leb (length line) at)
+    gather-end m = by (decLt at (length line))
+      where
+        some : at < length line → 0 < length (fieldsAfter at line)
+        some e = rw (lt-ltb at (length line) e) (omega (arith, ap length (cut-first tab (drop (at + 1) line))))
+
+        by : Dec (at < length line) → NumbersRead count (fieldsAfter from line) before values (leb (length line) at)
+        by (yes e) =
+            rw (lt-leb (length line) at e)
+            (refuted
+            (ap (λ (t : Bool). t && allNumbers (fieldsAfter from line))
+            (ne-eqb (length (fieldsAfter from line)) count
+            (λ q. omega (arith, q, m, some e, ap length (g .fields), length-append (g .done) (fieldsAfter at line), g .size)))))
+        by (no e) =
+            let there = all-there (omega arith) in
+            rw (le-leb (length line) at (omega arith))
+            record {
+              test = sym (rw (there, g .good, eq-eqb (length (g .done)) count (omega (arith, g .size, g .few, m))));
+              values = λ t. g .wrote ∙ ap (λ (fs : List (List ℕ)). put before 0 (map value fs)) (sym there);
+            }
+
+-- ---- the instruction of a name and its numbers
+
+-- as many fields, whatever they say: one computed test over the rows
+entries-count : (row : ℕ) (vs : List ℕ) → row < nameCount → length (entriesOf (instructionOf row vs)) ≡ suc (fieldCount row)
+entries-count row vs h = eqb-true _ _ (all-below nameCount (λ k. eqb (length (entriesOf (instructionOf k vs))) (suc (fieldCount k))) refl row h)
+
+pub count-small : (row : ℕ) → row < nameCount → fieldCount row ≤ 6
+count-small row h = leb-true (fieldCount row) 6 (all-below nameCount (λ k. leb (fieldCount k) 6) refl row h)
+
+pub has-fields : (row : ℕ) (ns : List (List ℕ)) → row < nameCount → hasFields row ns ≡ (eqb (length ns) (fieldCount row) && allNumbers ns)
+has-fields row ns h =
+    ap (λ (k : ℕ). eqb (suc (length ns)) k && allNumbers ns) (entries-count row (map value ns) h)
+    ∙ ap (λ (t : Bool). t && allNumbers ns) (down (length ns) (fieldCount row))
+  where
+    down : (a b : ℕ) → eqb (suc a) (suc b) ≡ eqb a b
+    down a b = by (ℕ-discrete a b)
+      where
+        by : Dec (a ≡ b) → eqb (suc a) (suc b) ≡ eqb a b
+        by (yes e) = eq-eqb (suc a) (suc b) (ap suc e) ∙ sym (eq-eqb a b e)
+        by (no e) = ne-eqb (suc a) (suc b) (λ q. e (omega arith)) ∙ sym (ne-eqb a b e)
+
+-- zeros behind numbers say nothing new
+zeros-end : (xs zs : List ℕ) (k : ℕ) → ((i : ℕ) → getD zs i 0 ≡ 0) → getD (xs ++ zs) k 0 ≡ getD xs k 0
+zeros-end [] zs k h = h k
+zeros-end (x ∷ xs) zs zero h = refl
+zeros-end (x ∷ xs) zs (suc k) h = zeros-end xs zs k h
+
+abbrev sixZeros : List ℕ
+sixZeros = 0 ∷ 0 ∷ 0 ∷ 0 ∷ 0 ∷ 0 ∷ []
+
+six-zeros : (i : ℕ) → getD sixZeros i 0 ≡ 0
+six-zeros zero = refl
+six-zeros (suc zero) = refl
+six-zeros (suc (suc zero)) = refl
+six-zeros (suc (suc (suc zero))) = refl
+six-zeros (suc (suc (suc (suc zero)))) = refl
+six-zeros (suc (suc (suc (suc (suc zero))))) = refl
+six-zeros (suc (suc (suc (suc (suc (suc i)))))) = refl
+
+abbrev pub made : ℕ → ℕ → ℕ → ℕ → ℕ → ℕ → ℕ → Instruction
+made row engine write a b c d = record { engine = engine; write = write; body = bodyOf row (a ∷ b ∷ c ∷ d ∷ []) }
+
+module _ (vs : List ℕ) {values : List ℕ} (e : values ≡ put sixZeros 0 vs) where
+  at : (k : ℕ) → getD values k 0 ≡ getD vs k 0
+  at k =
+      ap (λ (l : List ℕ). getD l k 0) (e ∙ put-front sixZeros vs)
+      ∙ zeros-end vs (drop (length vs) sixZeros) k
+      (λ i. getD-drop (length vs) sixZeros i 0 ∙ six-zeros (length vs + i))
+
+  below : (k : ℕ) → getD values (2 + k) 0 ≡ getD (drop 2 vs) k 0
+  below k = at (2 + k) ∙ sym (getD-drop 2 vs k 0)
+
+  pub laid-instruction : (row : ℕ)
+      → made row (getD values 0 0) (getD values 1 0) (getD values 2 0) (getD values 3 0) (getD values 4 0) (getD values 5 0) ≡ instructionOf row vs
+  laid-instruction row = λ j. made row (at 0 j) (at 1 j) (below 0 j) (below 1 j) (below 2 j) (below 3 j)
+
+-- ---- a line whose fields are known
+
+module _ (row : ℕ) (address a : ℕ) (ns : List (List ℕ)) where
+  pub known-61 : hasFields row ns ≡ false → notWritten 61 ≡ knownRead row address a ns
+  known-61 e = rw e
+
+  pub known-62 : hasFields row ns ≡ true → (address ≡ a → ⊥) → notWritten 62 ≡ knownRead row address a ns
+  known-62 e n = rw (e, ne-eqb address a n)
+
+  pub known-written : hasFields row ns ≡ true → address ≡ a → writtenOf (instructionOf row (map value ns)) ≡ knownRead row address a ns
+  known-written e n = rw (e, eq-eqb address a n)
+
+module _ (a : ℕ) (f : List ℕ) where
+  pub fields-61 : (fs : List (List ℕ)) → isNumber f ≡ false → notWritten 61 ≡ fieldsRead a true (f ∷ fs)
+  fields-61 fs e = rw e
+
+  pub fields-alone : isNumber f ≡ true → notWritten 61 ≡ fieldsRead a true (f ∷ [])
+  fields-alone e = rw e
+
+  module _ (n : List ℕ) (ns : List (List ℕ)) (e : isNumber f ≡ true) where
+    two : leb 2 (suc (suc (length ns))) ≡ true
+    two = le-leb 2 (suc (suc (length ns))) (omega arith)
+
+    pub fields-known : rowNamed n < nameCount → knownRead (rowNamed n) (value f) a ns ≡ fieldsRead a true (f ∷ n ∷ ns)
+    fields-known h = rw (e, two, lt-ltb (rowNamed n) nameCount h)
+
+    pub fields-unknown : nameCount ≤ rowNamed n → pick (not (eqb (value f) a)) (notWritten 62) (notWritten 63) ≡ fieldsRead a true (f ∷ n ∷ ns)
+    fields-unknown h = rw (e, two, le-ltb (rowNamed n) nameCount h)
+
+-- ---- a line, as its fields are found
+
+module _ (line : List ℕ) (a : ℕ) {r : Counted} (n : r ≡ countedAt 0 line) where
+  abbrev whole : Row
+  whole = record { bytes = line; ended = true }
+
+  abbrev address : List ℕ
+  address = fieldAt 0 line
+
+  by-fields : (fs : List (List ℕ)) → cut tab line ≡ fs → fieldsRead a true fs ≡ lineRead a whole
+  unfolding lineRead
+  by-fields fs e = ap (fieldsRead a true) (sym e)
+
+  first : cut tab line ≡ address ∷ fieldsAfter (placeOf tab 0 line) line
+  first = field-next line 0 refl (omega arith) ∙ ap (λ (p : List ℕ). p ∷ fieldsAfter (placeOf tab 0 line) line) (found-piece tab 0 line refl)
+
+  pub line-not : r .plain ≡ false → notWritten 61 ≡ lineRead a whole
+  line-not p = fields-61 a address (fieldsAfter (placeOf tab 0 line) line) (number-not 0 line n p) ∙ by-fields _ first
+
+  module _ (p : r .plain ≡ true) where
+    s : (isNumber address ≡ true) × (r .value ≡ value address) × (r .end ≡ placeOf tab 0 line)
+    s = number-said 0 line n p
+
+    start : cut tab line ≡ address ∷ fieldsAfter (r .end) line
+    start = first ∙ ap (λ (i : ℕ). address ∷ fieldsAfter i line) (sym (s .2))
+
+    pub line-alone : length line ≤ r .end → notWritten 61 ≡ lineRead a whole
+    line-alone h =
+        fields-alone a address (s .0)
+        ∙ by-fields _ (start ∙ ap (λ (fs : List (List ℕ)). address ∷ fs) (after-last line (r .end) h))
+
+    module _ (h : r .end < length line) {later : ℕ} (g : later ≡ placeOf tab (r .end + 1) line) where
+      abbrev name : List ℕ
+      name = take (later - (r .end + 1)) (drop (r .end + 1) line)
+
+      pub name-inside : later ≤ length line
+      name-inside = found-inside tab (r .end + 1) line g (omega arith)
+
+      pub name-order : r .end + 1 ≤ later
+      name-order = found-order tab (r .end + 1) line g
+
+      two-fields : cut tab line ≡ address ∷ name ∷ fieldsAfter later line
+      two-fields = start ∙ ap (λ (fs : List (List ℕ)). address ∷ fs) (after-next line (r .end) h g)
+
+      module _ {row : ℕ} (m : row ≡ rowNamed name) where
+        pub line-known : row < nameCount → knownRead row (r .value) a (fieldsAfter later line) ≡ lineRead a whole
+        line-known l =
+            ap₂ (λ (k x : ℕ). knownRead k x a (fieldsAfter later line)) m (s .1)
+            ∙ fields-known a address name (fieldsAfter later line) (s .0) (omega (arith, m))
+            ∙ by-fields _ two-fields
+
+        pub line-unknown : nameCount ≤ row → pick (not (eqb (r .value) a)) (notWritten 62) (notWritten 63) ≡ lineRead a whole
+        line-unknown l =
+            ap (λ (x : ℕ). pick (not (eqb x a)) (notWritten 62) (notWritten 63)) (s .1)
+            ∙ fields-unknown a address name (fieldsAfter later line) (s .0) (omega (arith, m))
+            ∙ by-fields _ two-fields
+
+-- ---- a line whose name is known, as its numbers are gathered
+
+module _ (row address a : ℕ) (h : row < nameCount) (ns : List (List ℕ)) {count : ℕ} (c : count ≡ fieldCount row)
+    {after : List ℕ} {r : Bool} (g : NumbersRead count ns sixZeros after r) where
+  tested : hasFields row ns ≡ r
+  tested = has-fields row ns h ∙ ap (λ (k : ℕ). eqb (length ns) k && allNumbers ns) (sym c) ∙ sym (g .test)
+
+  pub gathered-61 : r ≡ false → notWritten 61 ≡ knownRead row address a ns
+  gathered-61 e = known-61 row address a ns (tested ∙ e)
+
+  pub gathered-62 : r ≡ true → (address ≡ a → ⊥) → notWritten 62 ≡ knownRead row address a ns
+  gathered-62 e = known-62 row address a ns (tested ∙ e)
+
+  pub gathered-written : r ≡ true → address ≡ a → {body : Body} → body ≡ bodyOf row (getD after 2 0 ∷ getD after 3 0 ∷ getD after 4 0 ∷ getD after 5 0 ∷ [])
+      → writtenOf (record { engine = getD after 0 0; write = getD after 1 0; body = body }) ≡ knownRead row address a ns
+  gathered-written e n b =
+      ap writtenOf ((λ j. record { engine = getD after 0 0; write = getD after 1 0; body = b j }) ∙ laid-instruction (map value ns) (g .values e) row)
+      ∙ known-written row address a ns (tested ∙ e) n

@@ -1,0 +1,123 @@
+-- A listing read back. Document 02, CR 1: "Please read the listing of document 01, decimals without leading zeros."
+-- Line by line: what is wrong with it, or the word that the writer writes for it; names and fields are those that the listing shows.
+use Prim.Native.Nat.{ℕ, suc, _+_, _-_}
+use mathlib.Core.Path.{_≡_}
+use mathlib.Core.Bool.{Bool, true, not, _||_, _&&_}
+use mathlib.Core.List.{List, [], _∷_, _++_, map}
+use lib.Dec.{ltb, eqb, leb}
+use lib.ListN.{length, getD, take, drop}
+use Rattle.instruction.specs.Bits.{pick, _gives_else_}
+use Rattle.instruction.specs.Form.{filled}
+use Rattle.instruction.specs.Table.{bodyOf}
+use Rattle.instruction.specs.declared.Instruction.{Instruction}
+use Rattle.buffer.specs.Put.{put}
+use Rattle.text.specs.Cut.{Row, rowsIn, fieldsIn, sameText}
+use Rattle.text.specs.Number.{value, isNumber}
+use Rattle.names.specs.Names.{nameCount, rowNamed}
+use Rattle.listing.specs.Listing.{entriesOf, headerText}
+use Rattle.writer.specs.Writing.{notWritten, writtenOf}
+use Rattle.writer.specs.declared.Written.{Written}
+use Rattle.listing_reader.specs.declared.ReadBack.{ReadBack}
+
+-- ---- a line
+
+-- "address, name, engine select, write flag, and the table's fields"
+abbrev pub addressIn : List (List ℕ) → List ℕ
+addressIn fs = getD fs 0 []
+
+abbrev pub nameIn : List (List ℕ) → List ℕ
+nameIn fs = getD fs 1 []
+
+abbrev pub numbersIn : List (List ℕ) → List (List ℕ)
+numbersIn fs = drop 2 fs
+
+abbrev pub isKnown : List (List ℕ) → Bool
+isKnown fs = ltb (rowNamed (nameIn fs)) nameCount
+
+-- an instruction by its name's row of the table, with engine select, write flag and the table's fields
+abbrev pub instructionOf : ℕ → List ℕ → Instruction
+instructionOf row vs = record { engine = getD vs 0 0; write = getD vs 1 0; body = bodyOf row (drop 2 vs) }
+
+-- what a line asks the writer for
+abbrev pub wishIn : List (List ℕ) → Instruction
+wishIn fs = instructionOf (rowNamed (nameIn fs)) (map value (numbersIn fs))
+
+abbrev pub allNumbers : List (List ℕ) → Bool
+allNumbers [] = true
+allNumbers (f ∷ fs) = isNumber f && allNumbers fs
+
+-- "the fields its name has": as many as the listing shows behind the name
+abbrev pub hasFields : ℕ → List (List ℕ) → Bool
+hasFields row ns = eqb (suc (length ns)) (length (entriesOf (instructionOf row (map value ns)))) && allNumbers ns
+
+-- "61 line feed missing, a number not plain decimal below 2^64, or not the fields its name has (for an unknown name or `BAD` only
+-- line feed and address are judged)"; a line without a second field has no name
+abbrev pub isShaped : Bool → List (List ℕ) → Bool
+isShaped ended fs =
+    ended && (isNumber (addressIn fs) && (leb 2 (length fs) && (not (isKnown fs) || hasFields (rowNamed (nameIn fs)) (numbersIn fs))))
+
+-- "61 .., 62 address not counting up from 0, 63 unknown name or `BAD`, then the writer's own numbers"
+abbrev pub fieldsRead : ℕ → Bool → List (List ℕ) → Written
+fieldsRead a ended fs =
+    pick (not (isShaped ended fs)) (notWritten 61)
+    (pick (not (eqb (value (addressIn fs)) a)) (notWritten 62)
+    (pick (not (isKnown fs)) (notWritten 63)
+    (writtenOf (wishIn fs))))
+
+unfoldable pub lineRead : ℕ → Row → Written
+lineRead a row = fieldsRead a (row .ended) (fieldsIn row)
+
+-- "64 no room"; "on a line in this order"
+unfoldable pub lineNumber : ℕ → ℕ → Row → ℕ
+lineNumber room a row = filled (lineRead a row .number) gives lineRead a row .number else leb room a gives 64 else 0
+
+unfoldable pub wordIn : Row → ℕ
+wordIn row = writtenOf (wishIn (fieldsIn row)) .word
+
+-- ---- a text
+
+-- "Each refusal tells its line, from 1"; the header is line 1, and after a refusal there are no words
+abbrev pub refusedAt : ℕ → ℕ → ReadBack
+refusedAt number line = record { number = number; line = line; count = 0 }
+
+-- "the first bad line wins": lines from an address on
+unfoldable pub toldOf : ℕ → ℕ → List Row → ReadBack
+toldOf room a [] = record { number = 0; line = 0; count = a }
+toldOf room a (row ∷ rows) = pick (eqb (lineNumber room a row) 0) (toldOf room (a + 1) rows) (refusedAt (lineNumber room a row) (a + 2))
+
+-- "60 header, its line feed included"
+abbrev pub isHeaded : List ℕ → Bool
+isHeaded text = sameText (take (length headerText) text) headerText
+
+-- the lines behind the header
+abbrev pub bodyRows : List ℕ → List Row
+bodyRows text = rowsIn (drop (length headerText) text)
+
+unfoldable pub readBack : ℕ → List ℕ → ReadBack
+readBack room text = pick (isHeaded text) (toldOf room 0 (bodyRows text)) (refusedAt 60 1)
+
+abbrev pub wordsIn : List ℕ → List ℕ
+wordsIn text = map wordIn (bodyRows text)
+
+-- what `read_listing` answers, and what it leaves in the buffer: "The words go to a lent buffer, untouched after a refusal."
+pub record ReadsBack (text before after : List ℕ) (r : ReadBack) : Type 0 where
+  pub answer : r ≡ readBack (length before) text
+  pub words : after ≡ pick (eqb (r .number) 0) (wordsIn text ++ drop (length (wordsIn text)) before) before
+
+-- ---- what the functions tell
+
+-- how many fields the listing shows behind a name
+abbrev pub fieldCount : ℕ → ℕ
+fieldCount row = length (entriesOf (instructionOf row [])) - 1
+
+-- a line with a known name and these fields behind it
+abbrev pub knownRead : ℕ → ℕ → ℕ → List (List ℕ) → Written
+knownRead row address a fs =
+    pick (not (hasFields row fs)) (notWritten 61)
+    (pick (not (eqb address a)) (notWritten 62)
+    (writtenOf (instructionOf row (map value fs))))
+
+-- so many fields and no more, each a number: told, and then laid from the front
+pub record NumbersRead (count : ℕ) (fs : List (List ℕ)) (before after : List ℕ) (r : Bool) : Type 0 where
+  pub test : r ≡ (eqb (length fs) count && allNumbers fs)
+  pub values : r ≡ true → after ≡ put before 0 (map value fs)

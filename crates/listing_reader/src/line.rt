@@ -1,0 +1,122 @@
+// One line of a listing, without its line feed: what is wrong with it, or the word that the writer writes for it.
+// Address, name, and the fields that the listing shows of that name, parted by tabs.
+ghost use mathlib.Core.Path.{_≡_};
+ghost use mathlib.Core.Bool.{true, not};
+ghost use Prim.Native.Nat.{_≤_, _<_};
+ghost use lib.Dec.{eqb};
+ghost use lib.ListN.{length};
+ghost use Rattle.instruction.specs.Bits.{pick};
+ghost use Rattle.text.specs.Cut.{fieldsAfter};
+ghost use Rattle.writer.specs.Writing.{notWritten};
+ghost use Rattle.names.specs.Names.{nameCount};
+ghost use Rattle.listing_reader.specs.ReadBack.{fieldCount, knownRead, lineRead, NumbersRead};
+use crate::ReadBack;
+use instruction::Body;
+use instruction::Instruction;
+use laid::fields::body_of;
+use names::Names;
+use names::named;
+use text::find;
+use text::number_from;
+use writer::Written;
+use writer::write;
+
+// How many fields the listing shows behind a name.
+fn field_count(row: u64) -> usize
+    ensures { λ r. ⌜ r ≡ fieldCount row ⌝ }
+{
+    match row {
+        Body::WAVEFORM => 6,
+        Body::MARKER => 6,
+        Body::WAIT => 2,
+        Body::LOAD_REPEAT => 3,
+        Body::REPEAT => 3,
+        Body::CMP => 4,
+        Body::GOTO => 3,
+        Body::CALL => 3,
+        Body::RETURN => 2,
+        Body::SYNC => 2,
+        Body::MODULATOR => 5,
+        Body::LOAD_CMP => 2,
+        Body::PREFETCH => 3,
+        _ => 0,
+    }
+}
+
+// Whether just so many fields stand behind a place, each a number; they are then laid from the front.
+fn read_numbers(line: &[u8], from: usize, count: usize, values: &mut [u64]) -> bool
+    requires { ⌜ (from ≤ length (now line)) × (count ≤ length (now values)) ⌝ }
+    ensures { λ r. ⌜ NumbersRead count (fieldsAfter from (now (line .entry))) (now (values .entry)) (now (values .exit)) r ⌝ }
+{
+    let mut at = from;
+    let mut k: usize = 0;
+    while k < count {
+        if line.len() <= at {
+            return false;
+        }
+        let field = number_from(line, at + 1);
+        if !field.plain {
+            return false;
+        }
+        values[k] = field.value;
+        at = field.end;
+        k += 1;
+    }
+    line.len() <= at
+}
+
+fn refused(number: u64) -> Written
+    ensures { λ r. ⌜ r ≡ notWritten number ⌝ }
+{
+    Written { number, word: 0 }
+}
+
+// A line whose name is known, from the end of the name on.
+fn read_known(line: &[u8], from: usize, row: u64, address: u64, a: u64) -> Written
+    requires { ⌜ (from ≤ length (now line)) × (row < nameCount) ⌝ }
+    ensures { λ r. ⌜ r ≡ knownRead row address a (fieldsAfter from (now (line .entry))) ⌝ }
+{
+    let mut values = [0u64; ReadBack::FIELDS];
+    if !read_numbers(line, from, field_count(row), &mut values) {
+        return refused(ReadBack::NO_LINE);
+    }
+    if address != a {
+        return refused(ReadBack::WRONG_ADDRESS);
+    }
+    let body = body_of(row, values[2], values[3], values[4], values[5]);
+    write(Instruction {
+        engine: values[0],
+        write: values[1],
+        body,
+    })
+}
+
+// A line whose name is not known.
+fn read_unknown(address: u64, a: u64) -> Written
+    ensures { λ r. ⌜ r ≡ pick (not (eqb address a)) (notWritten 62) (notWritten 63) ⌝ }
+{
+    if address != a {
+        return refused(ReadBack::WRONG_ADDRESS);
+    }
+    refused(ReadBack::NO_NAME)
+}
+
+// The line of the word at address a.
+pub fn read_line(line: &[u8], a: u64) -> Written
+    ensures { λ r. ⌜ r ≡ lineRead a (record { bytes = now (line .entry); ended = true }) ⌝ }
+{
+    let address = number_from(line, 0);
+    if !address.plain {
+        return refused(ReadBack::NO_LINE);
+    }
+    if line.len() <= address.end {
+        return refused(ReadBack::NO_LINE);
+    }
+    let from = address.end + 1;
+    let end = find(line, from, b'\t');
+    let row = named(&line[from..end]);
+    if row < Names::COUNT {
+        return read_known(line, end, row, address.value, a);
+    }
+    read_unknown(address.value, a)
+}

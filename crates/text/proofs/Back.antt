@@ -1,0 +1,136 @@
+-- What is written is read back: its lines, their fields, and the number in a field; and a field that is read as a number
+-- is the text of that number.
+-- Assumes nothing.
+use Prim.Native.Nat.{ℕ, zero, suc, _+_, _≤_, _<_}
+use Prim.Native.String.{String}
+use mathlib.Core.Path.{_≡_, refl, sym, ap, _∙_}
+use mathlib.Core.Bool.{Bool, true, false, not, _||_, _&&_}
+use mathlib.Core.List.{List, [], _∷_, _++_, map, append-assoc}
+use native.Mathlib.Omega.{arith}
+use borrow.Author.Tests.{lt-ltb, ltb-true, ne-eqb, eqb-true}
+use lib.Dec.{ltb, eqb}
+use Rattle.instruction.specs.Bits.{pick}
+use Rattle.text.specs.Cut.{tab, lineFeed, cut, placeOf, rowsIn}
+use Rattle.text.specs.Number.{isDigit, allDigits, noLeadingZero, plain, value, numbers, isNumber, uncounted, fieldAt, countedAt}
+use Rattle.text.specs.declared.Counted.{Counted}
+use Rattle.text.specs.Line.{Entry, name, number, letters, decimal, entryText, restText, lineText, Line, textOf}
+use Rattle.text.proofs.Cuts.{has, joined, noneHas, cut-piece, cut-joined}
+use Rattle.text.proofs.Decimals.{decimal-value, decimal-digits, decimal-plain, plain-decimal}
+use Rattle.text.proofs.Rows.{rows-line}
+use Rattle.text.proofs.Bools.{both}
+
+-- ---- numbers
+
+-- what is written is a number, and that number
+pub number-back : (n : ℕ) → n < numbers → isNumber (decimal n) ≡ true
+number-back n h = rw (decimal-plain n, lt-ltb (value (decimal n)) numbers (omega (arith, decimal-value n)))
+
+-- a field that is a number is the text of it
+pub number-text : (bs : List ℕ) → isNumber bs ≡ true → decimal (value bs) ≡ bs
+number-text bs e = plain-decimal bs (both (plain bs) (ltb (value bs) numbers) e .0)
+
+-- what a field says, as it is told
+pub number-said : (from : ℕ) (line : List ℕ) {r : Counted} → r ≡ countedAt from line → r .plain ≡ true
+    → (isNumber (fieldAt from line) ≡ true) × (r .value ≡ value (fieldAt from line)) × (r .end ≡ placeOf tab from line)
+number-said from line {r = r} e p = by (isNumber (fieldAt from line)) refl e
+  where
+    by : (t : Bool) → isNumber (fieldAt from line) ≡ t
+        → r ≡ pick t (record { plain = true; value = value (fieldAt from line); end = placeOf tab from line }) (uncounted from)
+        → (isNumber (fieldAt from line) ≡ true) × (r .value ≡ value (fieldAt from line)) × (r .end ≡ placeOf tab from line)
+    by true f g = (f, ap (λ (x : Counted). x .value) g, ap (λ (x : Counted). x .end) g)
+    by false f g = absurd (let c : true ≡ false = sym p ∙ ap (λ (x : Counted). x .plain) g in let z : _≡_ {A = ℕ} 0 1 = cc in omega arith)
+
+pub number-not : (from : ℕ) (line : List ℕ) {r : Counted} → r ≡ countedAt from line → r .plain ≡ false → isNumber (fieldAt from line) ≡ false
+number-not from line {r = r} e p = by (isNumber (fieldAt from line)) refl e
+  where
+    by : (t : Bool) → isNumber (fieldAt from line) ≡ t
+        → r ≡ pick t (record { plain = true; value = value (fieldAt from line); end = placeOf tab from line }) (uncounted from)
+        → isNumber (fieldAt from line) ≡ false
+    by true f g = absurd (let c : true ≡ false = sym (ap (λ (x : Counted). x .plain) g) ∙ p in let z : _≡_ {A = ℕ} 0 1 = cc in omega arith)
+    by false f g = f
+
+-- ---- lines and their fields
+
+-- a line's fields, and the line without its line feed
+abbrev pub fieldsOf : Line → List (List ℕ)
+fieldsOf l = entryText (l .first) ∷ map entryText (l .rest)
+
+abbrev pub bare : Line → List ℕ
+bare l = joined tab (fieldsOf l)
+
+-- a name has neither tab nor line feed; computes to true for each name that is used
+abbrev pub cleanName : String → Bool
+cleanName s = not (has tab (letters s) || has lineFeed (letters s))
+
+abbrev pub clean : Entry → Bool
+clean (name s) = cleanName s
+clean (number n) = true
+
+abbrev pub allClean : List Entry → Bool
+allClean [] = true
+allClean (e ∷ es) = clean e && allClean es
+
+-- ---- what a field has not
+
+free-of : (x b : ℕ) → isDigit x ≡ false → isDigit b ≡ true → eqb b x ≡ false
+free-of x b e f = ne-eqb b x (λ h. let z : _≡_ {A = ℕ} 0 1 = absurd (clash (sym f ∙ ap isDigit h ∙ e)) in omega arith)
+  where
+    clash : true ≡ false → ⊥
+    clash c = let z : _≡_ {A = ℕ} 0 1 = cc in omega arith
+
+digits-free : (x : ℕ) (bs : List ℕ) → isDigit x ≡ false → allDigits bs ≡ true → has x bs ≡ false
+digits-free x [] e f = refl
+digits-free x (b ∷ bs) e f =
+    let g = both (isDigit b) (allDigits bs) f in
+    rw (free-of x b e (g .0)) (digits-free x bs e (g .1))
+
+-- neither of two
+neither : (a b : Bool) → not (a || b) ≡ true → (a ≡ false) × (b ≡ false)
+neither true b e = absurd (let z : _≡_ {A = ℕ} 0 1 = cc in omega arith)
+neither false true e = absurd (let z : _≡_ {A = ℕ} 0 1 = cc in omega arith)
+neither false false e = (refl, refl)
+
+entry-free : (e : Entry) → clean e ≡ true → (has tab (entryText e) ≡ false) × (has lineFeed (entryText e) ≡ false)
+entry-free (name s) c = neither (has tab (letters s)) (has lineFeed (letters s)) c
+entry-free (number n) c = (digits-free tab (decimal n) refl (decimal-digits n), digits-free lineFeed (decimal n) refl (decimal-digits n))
+
+-- ---- a line
+
+-- a line is its fields, joined by tabs, and a line feed
+pub line-joined : (e : Entry) (es : List Entry) → lineText e es ≡ joined tab (entryText e ∷ map entryText es) ++ (lineFeed ∷ [])
+line-joined e [] = refl
+line-joined e (f ∷ es) =
+    ap (λ (l : List ℕ). entryText e ++ (tab ∷ l)) (line-joined f es)
+    ∙ sym (append-assoc (entryText e) (tab ∷ joined tab (entryText f ∷ map entryText es)) (lineFeed ∷ []))
+
+no-tabs : (es : List Entry) → allClean es ≡ true → noneHas tab (map entryText es) ≡ true
+no-tabs [] c = refl
+no-tabs (e ∷ es) c =
+    let g = both (clean e) (allClean es) c in
+    rw (entry-free e (g .0) .0) (no-tabs es (g .1))
+
+has-append : (x : ℕ) (p q : List ℕ) → has x p ≡ false → has x q ≡ false → has x (p ++ q) ≡ false
+has-append x [] q e f = f
+has-append x (b ∷ p) q e f = by (eqb b x) e (has-append x p q)
+  where
+    by : (t : Bool) → (t || has x p) ≡ false → (has x p ≡ false → has x q ≡ false → has x (p ++ q) ≡ false) → (t || has x (p ++ q)) ≡ false
+    by true g ih = g
+    by false g ih = ih g f
+
+no-feeds : (e : Entry) (es : List Entry) → allClean (e ∷ es) ≡ true → has lineFeed (joined tab (entryText e ∷ map entryText es)) ≡ false
+no-feeds e [] c = entry-free e (both (clean e) true c .0) .1
+no-feeds e (f ∷ es) c =
+    let g = both (clean e) (allClean (f ∷ es)) c in
+    has-append lineFeed (entryText e) (tab ∷ joined tab (entryText f ∷ map entryText es)) (entry-free e (g .0) .1) (no-feeds f es (g .1))
+
+-- the fields of a line are cut apart again
+pub fields-back : (l : Line) → allClean (l .first ∷ l .rest) ≡ true → cut tab (bare l) ≡ fieldsOf l
+fields-back l c = cut-joined tab (entryText (l .first)) (map entryText (l .rest)) (no-tabs (l .first ∷ l .rest) c)
+
+-- a line is cut from what stands behind it
+pub line-back : (l : Line) (more : List ℕ) → allClean (l .first ∷ l .rest) ≡ true
+    → rowsIn (lineText (l .first) (l .rest) ++ more) ≡ record { bytes = bare l; ended = true } ∷ rowsIn more
+line-back l more c =
+    ap (λ (t : List ℕ). rowsIn (t ++ more)) (line-joined (l .first) (l .rest))
+    ∙ ap rowsIn (append-assoc (bare l) (lineFeed ∷ []) more)
+    ∙ rows-line (bare l) more (no-feeds (l .first) (l .rest) c)

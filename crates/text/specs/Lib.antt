@@ -1,0 +1,3 @@
+pub mod Cut
+pub mod Line
+pub mod Number

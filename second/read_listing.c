@@ -1,0 +1,135 @@
+/* The listing read back: document 02, request 1. All lines are judged before the first word is written.
+   Each function reads from a place on and gives back the place behind what it read, or NULL where that does not stand there. */
+#include "names.h"
+
+enum { NONE = -1 };
+
+static inline const uint8_t *byte(const uint8_t *at, const uint8_t *end, uint8_t wanted)
+{
+    return at < end && *at == wanted ? at + 1 : NULL;
+}
+
+/* A number below 2^64 in plain decimal: as many digits as stand there, at least one, and no zero before others. */
+static inline const uint8_t *decimal(const uint8_t *at, const uint8_t *end, uint64_t *value)
+{
+    const uint8_t *first = at;
+    uint64_t v = 0;
+    for (; at < end && *at >= '0' && *at <= '9'; at++) {
+        uint64_t digit = (uint64_t)(*at - '0');
+        if (v > (~UINT64_C(0) - digit) / 10)
+            return NULL;
+        v = v * 10 + digit;
+    }
+    if (at == first || (*first == '0' && at - first > 1))
+        return NULL;
+    *value = v;
+    return at;
+}
+
+static inline const uint8_t *tabbed(const uint8_t *at, const uint8_t *end, uint64_t *value)
+{
+    at = byte(at, end, '\t');
+    return at ? decimal(at, end, value) : NULL;
+}
+
+static inline int is(const uint8_t *from, const uint8_t *to, const char *name)
+{
+    while (from < to && *name && *from == (uint8_t)*name)
+        from++, name++;
+    return from == to && !*name;
+}
+
+static inline int one_of(const uint8_t *from, const uint8_t *to, int a, int b)
+{
+    return is(from, to, names[a]) ? a : is(from, to, names[b]) ? b : NONE;
+}
+
+/* The op code with the name that stands between two places. */
+static inline int code_of(const uint8_t *from, const uint8_t *to)
+{
+    switch (from < to ? *from : 0) {
+    case 'C':
+        return one_of(from, to, CMP, CALL);
+    case 'G':
+        return one_of(from, to, GOTO, GOTO);
+    case 'L':
+        return one_of(from, to, LOAD_REPEAT, LOAD_CMP);
+    case 'M':
+        return one_of(from, to, MARKER, MODULATOR);
+    case 'N':
+        return one_of(from, to, NOOP, NOOP);
+    case 'P':
+        return one_of(from, to, PREFETCH, PREFETCH);
+    case 'R':
+        return one_of(from, to, REPEAT, RETURN);
+    case 'S':
+        return one_of(from, to, SYNC, SYNC);
+    case 'W':
+        return one_of(from, to, WAVEFORM, WAIT);
+    default:
+        return NONE;
+    }
+}
+
+/* The fields that a name has, each behind a tab: engine select and write flag but for NOOP, and those of its row. */
+static inline const uint8_t *fields_of(const uint8_t *at, const uint8_t *end, int code, uint64_t f[8])
+{
+    int count = code == NOOP ? 0 : 2 + shown[code];
+    f[0] = (uint64_t)code;
+    for (int i = 1; at && i <= count; i++)
+        at = tabbed(at, end, &f[i]);
+    return at;
+}
+
+/* The line at *start: its word, and *start moved behind it, or the number that refuses it; whether there is room is not asked here. */
+static uint64_t line(const uint8_t **start, const uint8_t *end, uint64_t address, uint64_t word[1])
+{
+    uint64_t f[8] = { 0 }, found;
+    const uint8_t *at = decimal(*start, end, &found);
+    if (!at || !(at = byte(at, end, '\t')))
+        return 61;
+    const uint8_t *name = at;
+    while (at < end && *at != '\t' && *at != '\n')
+        at++;
+    int code = code_of(name, at);
+    if (code != NONE)
+        at = fields_of(at, end, code, f);
+    else
+        while (at < end && *at != '\n')
+            at++;
+    if (!at || !(at = byte(at, end, '\n')))
+        return 61;
+    if (found != address)
+        return 62;
+    if (code == NONE)
+        return 63;
+    *start = at;
+    return second_write(f, word);
+}
+
+uint64_t second_read_listing(const uint8_t *text, size_t len, uint64_t *words, size_t words_len, uint64_t told[2])
+{
+    const uint8_t *end = text + len, *first = text, *at;
+    uint64_t word[1], number = 0;
+    size_t n = 0;
+    told[0] = 1;
+    told[1] = 0;
+    for (const char *header = "aps2-listing\t1\n"; *header; header++)
+        if (!(first = byte(first, end, (uint8_t)*header)))
+            return 60;
+    for (at = first; at < end; n++) {
+        number = line(&at, end, n, word);
+        if (!number && n == words_len)
+            number = 64;
+        if (number) {
+            told[0] = n + 2;
+            return number;
+        }
+    }
+    at = first;
+    for (size_t a = 0; a < n; a++)
+        line(&at, end, a, &words[a]);
+    told[0] = 0;
+    told[1] = n;
+    return 0;
+}

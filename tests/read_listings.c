@@ -1,0 +1,500 @@
+/* Listings read back, compared with the second program: the number, the line, how many words, and the whole buffer with its tail.
+   A case is made from its number and a seed. One that disagrees is printed with both, so that `read_listings FAMILY CASE SEED` runs it again
+   by itself, and with its text where that is short. */
+#include "../include/aps2.h"
+#include "../second/second.h"
+#include "texts.h"
+
+#define SHORT 400
+
+/* What each program makes of the text; `before` is what both buffers held. */
+static uint64_t ours[MOST + 64 + BEHIND], theirs[MOST + 64 + BEHIND], before[MOST + 64 + BEHIND], words[MOST];
+
+/* Which case this is, and how often each number was given, so that no family passes by never meeting one. */
+static uint64_t this_family, this_case, this_seed, met[65];
+
+static void show_answer(const char *who, uint64_t number, const uint64_t told[2])
+{
+    printf("  %s: number %llu, line %llu, words %llu\n", who, (unsigned long long)number, (unsigned long long)told[0], (unsigned long long)told[1]);
+}
+
+static void show_case(size_t room)
+{
+    printf("  case: read_listings %llu %llu %llu; %llu bytes, room %llu\n", (unsigned long long)this_family, (unsigned long long)this_case,
+           (unsigned long long)this_seed, (unsigned long long)len, (unsigned long long)room);
+    if (len > SHORT)
+        return;
+    printf("  text: ");
+    for (size_t i = 0; i < len; i++)
+        printf("%02x", text[i]);
+    printf("%s\n", len ? "" : "-");
+}
+
+/* Nothing behind the text may be read: what stands there would mend many a text. */
+static void tempt(void)
+{
+    static const char bytes[] = "\n\t0915N";
+    for (int i = 0; i < BEHIND; i++)
+        text[len + (size_t)i] = (uint8_t)bytes[below(sizeof bytes - 1)];
+}
+
+/* Both buffers alike, and told with nothing that an answer would hold. */
+static void lend(size_t room, uint64_t our_told[2], uint64_t their_told[2])
+{
+    for (size_t i = 0; i < room + BEHIND; i++)
+        ours[i] = theirs[i] = before[i] = random64();
+    for (int i = 0; i < 2; i++)
+        our_told[i] = random64(), their_told[i] = random64();
+}
+
+/* Words go whole or not at all, and what is behind them stays. */
+static int untouched(uint64_t number, uint64_t count, size_t room)
+{
+    for (size_t i = number ? 0 : count; i < room + BEHIND; i++)
+        if (ours[i] != before[i])
+            return 0;
+    return 1;
+}
+
+/* The first word that differs. */
+static void show_word(size_t room)
+{
+    for (size_t i = 0; i < room + BEHIND; i++)
+        if (ours[i] != theirs[i]) {
+            printf("  word %llu: %llx, second %llx, before %llx\n", (unsigned long long)i, (unsigned long long)ours[i],
+                   (unsigned long long)theirs[i], (unsigned long long)before[i]);
+            return;
+        }
+}
+
+/* Both programs read the text; the answers, the buffers and their tails are compared. */
+static void try_read(size_t room)
+{
+    uint64_t told[2], second_told[2];
+    lend(room, told, second_told);
+    tempt();
+    uint64_t number = aps2_read_listing(text, len, ours, room, told);
+    uint64_t second = second_read_listing(text, len, theirs, room, second_told);
+    int good = number == second && told[0] == second_told[0] && told[1] == second_told[1] && untouched(number, told[1], room);
+    for (size_t i = 0; i < room + BEHIND; i++)
+        good &= ours[i] == theirs[i];
+    compared++;
+    met[number < 65 ? number : 1]++;
+    if (!good && !failed) {
+        failed = 1;
+        show_case(room);
+        show_answer("ours", number, told);
+        show_answer("second", second, second_told);
+        show_word(room);
+    }
+}
+
+/* Rooms around n words: none, one short, just enough, any, and mostly more than enough. */
+static size_t room_around(size_t n)
+{
+    switch (below(8)) {
+    case 0: return 0;
+    case 1: return n ? n - 1 : 0;
+    case 2: return n;
+    case 3: return below(n + 1);
+    default: return n + below(6);
+    }
+}
+
+/* Every name, and one field of it at every edge, beside others that are zero, one, an instruction's, or any. */
+static void try_edge(uint64_t k)
+{
+    const struct row *row = &rows[k % ROWS];
+    uint64_t at = k / ROWS % 6, e = k / ROWS / 6 % EDGES, others = k / ROWS / 6 / EDGES, f[6] = { 0 };
+    size_t ahead = below(3);
+    if (others == 3)
+        any_fields(row, f);
+    else if (others == 2)
+        good_fields(row, f);
+    else
+        for (int i = 0; i < 6; i++)
+            f[i] = others;
+    if (at < (uint64_t)row->count)
+        f[at] = edge(e, row->width[at]);
+    start_text(ahead);
+    put_row(ahead, row, f);
+    try_read(room_around(ahead + 1));
+}
+
+/* Every name with none to seven fields: zeros, ones, or an instruction's and zeros behind. */
+static void try_count(uint64_t k)
+{
+    const struct row *row = &rows[k % ROWS];
+    uint64_t count = k / ROWS % 8, values = k / ROWS / 8, f[8] = { 0 };
+    size_t ahead = below(3);
+    if (values == 2)
+        good_fields(row, f);
+    else
+        for (int i = 0; i < 8; i++)
+            f[i] = values;
+    start_text(ahead);
+    put_decimal(ahead), put_bytes("\t"), put_bytes(row->name);
+    put_fields(f, (int)count);
+    put_bytes("\n");
+    try_read(ahead + 1);
+}
+
+/* Addresses out of turn, also by numbers whose low bits are zero. */
+static const uint64_t shifts[] = {
+    1, 2, 10, 1 << 8, 1 << 16, 1 << 26, UINT64_C(1) << 31, UINT64_C(1) << 32, UINT64_C(1) << 48, UINT64_C(1) << 53, UINT64_C(1) << 63, ~UINT64_C(0),
+};
+#define SHIFTS (sizeof shifts / sizeof *shifts)
+
+static void try_address(uint64_t k)
+{
+    const struct row *row = &rows[k % ROWS];
+    uint64_t f[6];
+    size_t ahead = k / ROWS / SHIFTS;
+    good_fields(row, f);
+    start_text(ahead);
+    put_row(ahead + shifts[k / ROWS % SHIFTS], row, f);
+    put_word(ahead + 1, good_word());
+    try_read(ahead + 2);
+}
+
+/* Some lines, each with any fields. */
+static void try_fields(uint64_t k)
+{
+    uint64_t f[6];
+    size_t n = 1 + k % 3;
+    start_text(0);
+    for (size_t a = 0; a < n; a++) {
+        const struct row *row = any_row();
+        any_fields(row, f);
+        put_row(a, row, f);
+    }
+    try_read(room_around(n));
+}
+
+/* Words of all kinds as they are listed, those that fail form as `BAD`. */
+static void try_listed(uint64_t k)
+{
+    size_t n = below(k % 10 ? 12 : 80);
+    start_text(0);
+    for (size_t a = 0; a < n; a++)
+        put_word(a, k % 2 ? good_word() : any_listed());
+    try_read(room_around(n));
+    try_read(n);
+}
+
+static void try_damages(uint64_t count)
+{
+    size_t n = 1 + below(8);
+    start_text(n);
+    for (uint64_t i = 0; i < count; i++)
+        damage();
+    try_read(room_around(n));
+    try_read(n + 3);
+}
+
+static void try_damage(uint64_t k) { (void)k, try_damages(1); }
+static void try_more_damages(uint64_t k) { try_damages(2 + k % 4); }
+
+/* Numbers as they should not be written, and those around 2^64, in place of the address, of every field, and of a field too many. */
+static const char *const numbers[] = {
+    "0", "1", "18446744073709551614", "18446744073709551615", "18446744073709551616", "18446744073709551617", "18446744073709551620",
+    "18446744073709551625", "18446744073709551626", "18446744083709551615", "19446744073709551615", "20000000000000000000", "28446744073709551615",
+    "36893488147419103232", "99999999999999999999", "100000000000000000000", "184467440737095516150", "340282366920938463463374607431768211456",
+    "340282366920938463463374607431768211457", "1844674407370955161", "9999999999999999999", "10000000000000000000", "00", "01", "000", "007",
+    "00000000000000000000", "00000000000000000000000000000000000001", "018446744073709551615", "+0", "+1", "-0", "-1", "", " 0", "0 ", " ", "1 1",
+    "0x1", "0.0", "1e3", "1,000", "1_0", "O", "a", "f", "0\r", "/", ":", "1/", "1:", "\xb2", "\xff",
+};
+#define NUMBERS (sizeof numbers / sizeof *numbers)
+
+static void try_number(uint64_t k)
+{
+    const struct row *row = &rows[k % ROWS];
+    const char *number = numbers[k / ROWS % NUMBERS];
+    int place = (int)(k / ROWS / NUMBERS), extra = place > row->count;
+    uint64_t f[6];
+    size_t ahead = below(3);
+    good_fields(row, f);
+    start_text(ahead);
+    if (place == 0)
+        put_bytes(number);
+    else
+        put_decimal(ahead);
+    put_bytes("\t"), put_bytes(row->name);
+    for (int i = 1; i <= row->count + extra; i++) {
+        put_bytes("\t");
+        if (i == place || i > row->count)
+            put_bytes(number);
+        else
+            put_decimal(f[i - 1]);
+    }
+    put_bytes("\n");
+    if (below(2))
+        put_word(ahead + 1, good_word());
+    try_read(ahead + 2);
+}
+
+/* Every start of the header line, and headers that are almost right, each alone and with lines behind. */
+static const char *const headers[] = {
+    "\n", "aps2-listing\t2\n", "aps2-listing\t10\n", "aps2-listing\t01\n", "aps2-listing\t\n", "aps2-listing\n", "aps2-listing\t1\t\n",
+    "aps2-listing\t1\t1\n", "aps2-listing 1\n", "aps2-listing\t1\r\n", "aps2-listing\t1 \n", " aps2-listing\t1\n", "\taps2-listing\t1\n",
+    "\naps2-listing\t1\n", "APS2-LISTING\t1\n", "Aps2-listing\t1\n", "aps2_listing\t1\n", "aps2listing\t1\n", "aps-listing\t1\n", "aps2-listings\t1\n",
+    "aps2-listing\t\t1\n", "aps2-listing\t1\n\n", "aps2-listing\t1\naps2-listing\t1\n", "refused\t8\n", "refused\t9\n", "\357\273\277aps2-listing\t1\n",
+};
+#define HEADERS (sizeof headers / sizeof *headers)
+
+static void try_header(uint64_t k)
+{
+    uint64_t which = k % (HEADERS + HEADER + 1);
+    size_t n = k / (HEADERS + HEADER + 1) % 3;
+    len = which < HEADERS ? 0 : put_header(text);
+    if (which < HEADERS)
+        put_bytes(headers[which]);
+    else
+        len = which - HEADERS;
+    for (size_t a = 0; a < n; a++)
+        put_word(a, good_word());
+    try_read(room_around(n));
+}
+
+/* Names that are none, made from one that is. */
+#define SPELLINGS 20
+static void put_name(uint64_t spelling, const char *name)
+{
+    size_t from = len;
+    put_bytes(name);
+    switch (spelling) {
+    case 0: break;
+    case 1: text[from] |= 0x20; break;
+    case 2:
+        for (size_t i = from; i < len; i++)
+            text[i] |= 0x20;
+        break;
+    case 3: len--; break;
+    case 4: drop(from, 1); break;
+    case 5: len = from; break;
+    case 6: len = from + 1; break;
+    case 7: put_bytes("S"); break;
+    case 8: put_bytes(name); break;
+    case 9: put_bytes("_"), put_bytes(name); break;
+    case 10: put_bytes("\r"); break;
+    case 11: put_bytes(" "); break;
+    case 12: add(from, ' '); break;
+    case 13: add(len, 0); break;
+    case 14: add(len, 255); break;
+    case 15: len = from, put_bytes("BAD"); break;
+    case 16: len = from, put_bytes("bad"); break;
+    case 17: put_decimal(below(20)); break;
+    case 18: text[from + below(len - from)] = odd_byte(); break;
+    default: text[len - 1] ^= 1; break;
+    }
+}
+
+/* A name spelt so, with the fields of the name, a single one or none; its address right or not; its line feed there or not. */
+static void try_name(uint64_t k)
+{
+    const struct row *row = &rows[k % ROWS];
+    uint64_t spelling = k / ROWS % SPELLINGS, fields = k / ROWS / SPELLINGS % 3, flaw = k / ROWS / SPELLINGS / 3, f[6];
+    size_t ahead = below(3);
+    good_fields(row, f);
+    start_text(ahead);
+    put_decimal(flaw == 1 ? ahead + 1 : ahead), put_bytes("\t");
+    put_name(spelling, row->name);
+    if (fields == 1)
+        put_bytes("\t"), put_decimal(10 + below(10));
+    else
+        put_fields(f, fields ? 0 : row->count);
+    if (flaw != 2)
+        put_bytes("\n");
+    if (flaw == 3)
+        put_word(ahead + 1, good_word());
+    try_read(room_around(ahead + 1));
+}
+
+/* Fields of a row that its form refuses, where it refuses any. */
+static void bad_fields(const struct row *row, uint64_t f[6])
+{
+    uint64_t word[1], number = 0;
+    for (int tries = 0; tries < 100 && (number < 13 || number > 19); tries++) {
+        any_fields(row, f);
+        number = written(row, f, word);
+    }
+}
+
+/* A line that is wrong in any of eight ways at once, each a bit of k, and every other time in none that are 61; at times with a line behind
+   it that may be wrong too. */
+static void try_order(uint64_t k)
+{
+    static const char *const addresses[] = { "", "00", "01", "+0", "18446744073709551616", "x" };
+    const struct row *row = any_row();
+    size_t ahead = below(3);
+    uint64_t f[6];
+    if (k & 512)
+        k &= ~UINT64_C(4 | 32 | 64);
+    good_fields(row, f);
+    if (k & 1)
+        bad_fields(row, f);
+    if (k & 2 && row->count) {
+        uint64_t i = below((uint64_t)row->count);
+        f[i] = top(row->width[i]) + 1 + below(3);
+    }
+    start_text(ahead);
+    if (k & 4)
+        put_bytes(addresses[below(6)]);
+    else
+        put_decimal(k & 8 ? ahead + 1 + below(2) : ahead);
+    put_bytes("\t"), put_name(k & 16 ? 1 + below(SPELLINGS - 1) : 0, row->name);
+    put_fields(f, row->count);
+    if (k & 32)
+        put_bytes(below(2) ? "\t0" : "\t");
+    if (!(k & 64))
+        put_bytes("\n");
+    if (k & 128)
+        put_word(ahead + below(3), good_word());
+    try_read(k & 256 ? ahead : ahead + 2);
+}
+
+/* Every room from none to more than enough, also where a line is bad before or behind the word that does not fit. */
+static void try_rooms(uint64_t k)
+{
+    size_t n = below(k % 10 ? 12 : 60);
+    start_text(n);
+    if (k % 2)
+        damage();
+    for (size_t room = 0; room <= n + 2; room++)
+        try_read(room);
+}
+
+/* More words than the listing program takes. */
+static void try_long(uint64_t k)
+{
+    static const size_t lengths[] = { 2047, 2048, 2049, 2050, MOST - 1, MOST };
+    size_t n = lengths[k % 6];
+    start_text(n);
+    try_read(n);
+    try_read(n - 1);
+    try_read(k % 2 ? 0 : n + 7);
+    damage();
+    try_read(n + 1);
+    try_read(2048);
+}
+
+/* Every byte put in the place of every byte of a text, and between any two. */
+static void try_byte(uint64_t k)
+{
+    size_t at = k / 512;
+    start_text(0);
+    put_bytes("0\tCMP\t1\t0\t3\t255\n1\tNOOP\n2\tWAIT\t0\t1\n");
+    if (k / 256 % 2)
+        add(at < len ? at : len, (uint8_t)k);
+    else if (at < len)
+        text[at] = (uint8_t)k;
+    try_read(k % 5 ? 3 : 2);
+}
+
+/* Bytes in no order behind the header. */
+static void try_bytes(uint64_t k)
+{
+    static const char bytes[] = "0011\t\t\t\t\n\n\nNOOPCMP2 \r";
+    start_text(0);
+    if (k % 3)
+        put_bytes(k % 3 == 1 ? "0\t" : "0\tNOOP\n1\t");
+    for (size_t n = below(12); n > 0; n--)
+        add(len, k % 5 ? (uint8_t)bytes[below(sizeof bytes - 1)] : odd_byte());
+    try_read(room_around(3));
+}
+
+/* Words that pass form are listed, read back, and are the same, but for the payload of RETURN and LOAD_CMP. */
+static void try_back(uint64_t k)
+{
+    static uint8_t bytes[8 * 2048];
+    size_t n = k % 100 ? below(40) : 2048 - below(2), room = n + below(4);
+    uint64_t told[2], unused[2];
+    for (size_t i = 0; i < 8 * n; i++) {
+        if (i % 8 == 0)
+            words[i / 8] = good_word();
+        bytes[i] = (uint8_t)(words[i / 8] >> (56 - 8 * (i % 8)));
+    }
+    len = second_listing(bytes, 8 * n, text, TEXT);
+    lend(room, told, unused);
+    tempt();
+    uint64_t number = aps2_read_listing(text, len, ours, room, told);
+    int good = number == 0 && told[0] == 0 && told[1] == n && untouched(0, n, room);
+    for (size_t i = 0; i < n; i++) {
+        uint64_t code = words[i] >> 60;
+        good &= ours[i] == (code == 8 || code == 11 ? words[i] >> 56 << 56 : words[i]);
+    }
+    compared++;
+    if (!good && !failed) {
+        failed = 1;
+        show_case(room);
+        show_answer("ours", number, told);
+    }
+}
+
+static const struct {
+    const char *name;
+    uint64_t cases;
+    void (*try_case)(uint64_t k);
+} families[] = {
+    { "read listing: every name, each field at its edges and past them", ROWS * 6 * EDGES * 4, try_edge },
+    { "read listing: every name with every number of fields", ROWS * 8 * 3, try_count },
+    { "read listing: addresses out of turn", ROWS * SHIFTS * 12, try_address },
+    { "read listing: lines of all names, with any fields", 20000, try_fields },
+    { "read listing: random words as they are listed, and BAD ones", 4000, try_listed },
+    { "read listing: one damage", 8000, try_damage },
+    { "read listing: several damages", 4000, try_more_damages },
+    { "read listing: numbers around 2^64, and not plain, at every place", ROWS * NUMBERS * 7, try_number },
+    { "read listing: headers", (HEADERS + HEADER + 1) * 3 * 4, try_header },
+    { "read listing: names that are none", ROWS * SPELLINGS * 3 * 4, try_name },
+    { "read listing: wrong in several ways at once", 512 * 16, try_order },
+    { "read listing: every room, none to more than enough", 600, try_rooms },
+    { "read listing: more than 2,048 words", 18, try_long },
+    { "read listing: every byte at every place", 512 * 50, try_byte },
+    { "read listing: bytes in no order", 6000, try_bytes },
+    { "read listing: what is listed comes back", 1500, try_back },
+};
+#define FAMILIES (sizeof families / sizeof *families)
+
+static void all_met(void)
+{
+    for (uint64_t n = 0; n < 65; n++) {
+        int can = n == 0 || (n >= 13 && n <= 19) || n == 23 || n >= 60;
+        if ((met[n] > 0) != can)
+            failed = 1, printf("  number %llu: %llu times\n", (unsigned long long)n, (unsigned long long)met[n]);
+        compared += (uint64_t)can;
+    }
+    family("read listing: every number was met");
+}
+
+static void try_one(uint64_t which, uint64_t k)
+{
+    this_family = which;
+    this_case = k;
+    this_seed = seed;
+    families[which].try_case(k);
+}
+
+static uint64_t argument(const char *s)
+{
+    uint64_t n = 0;
+    while (*s)
+        n = n * 10 + (uint64_t)(*s++ - '0');
+    return n;
+}
+
+int main(int count, char **arguments)
+{
+    if (count == 4 && argument(arguments[1]) < FAMILIES) {
+        seed = argument(arguments[3]);
+        try_one(argument(arguments[1]), argument(arguments[2]));
+        family(families[this_family].name);
+        return 0;
+    }
+    for (uint64_t which = 0; which < FAMILIES; which++) {
+        for (uint64_t k = 0; k < families[which].cases; k++)
+            try_one(which, k);
+        family(families[which].name);
+    }
+    all_met();
+    return 0;
+}
