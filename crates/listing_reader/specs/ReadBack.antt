@@ -31,6 +31,7 @@ nameIn fs = getD fs 1 []
 abbrev pub numbersIn : List (List ℕ) → List (List ℕ)
 numbersIn fs = drop 2 fs
 
+-- "unknown name or `BAD`" is what no instruction is called
 abbrev pub isKnown : List (List ℕ) → Bool
 isKnown fs = ltb (rowNamed (nameIn fs)) nameCount
 
@@ -42,6 +43,7 @@ instructionOf row vs = record { engine = getD vs 0 0; write = getD vs 1 0; body 
 abbrev pub wishIn : List (List ℕ) → Instruction
 wishIn fs = instructionOf (rowNamed (nameIn fs)) (map value (numbersIn fs))
 
+-- "a number not plain decimal below 2^64" is none of them
 abbrev pub allNumbers : List (List ℕ) → Bool
 allNumbers [] = true
 allNumbers (f ∷ fs) = isNumber f && allNumbers fs
@@ -64,6 +66,7 @@ fieldsRead a ended fs =
     (pick (not (isKnown fs)) (notWritten 63)
     (writtenOf (wishIn fs))))
 
+-- a line that counts as the one of address a
 unfoldable pub lineRead : ℕ → Row → Written
 lineRead a row = fieldsRead a (row .ended) (fieldsIn row)
 
@@ -71,6 +74,7 @@ lineRead a row = fieldsRead a (row .ended) (fieldsIn row)
 unfoldable pub lineNumber : ℕ → ℕ → Row → ℕ
 lineNumber room a row = filled (lineRead a row .number) gives lineRead a row .number else leb room a gives 64 else 0
 
+-- the word of a line with which nothing is wrong
 unfoldable pub wordIn : Row → ℕ
 wordIn row = writtenOf (wishIn (fieldsIn row)) .word
 
@@ -93,6 +97,7 @@ isHeaded text = sameText (take (length headerText) text) headerText
 abbrev pub bodyRows : List ℕ → List Row
 bodyRows text = rowsIn (drop (length headerText) text)
 
+-- 60 is told of line 1, and else what the lines tell
 unfoldable pub readBack : ℕ → List ℕ → ReadBack
 readBack room text = pick (isHeaded text) (toldOf room 0 (bodyRows text)) (refusedAt 60 1)
 

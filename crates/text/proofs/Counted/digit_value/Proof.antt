@@ -1,3 +1,4 @@
+-- A digit is at least "0" and at most "9".
 use mathlib.Core.Path.{refl}
 use native.Mathlib.Omega.{arith}
 use Rattle.text.proofs.Decimals.{digit-bounds}
