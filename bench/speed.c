@@ -31,20 +31,20 @@ static uint64_t words[WORDS];
 static uint8_t raw[8 * LISTED], text[HEADER + LINE * WORDS];
 static size_t n, room, text_len;
 struct answer {
-    uint64_t fields[8], number, place[1], answer[54], lent[STEPS], told[2];
+    uint64_t lent[STEPS], number, fields[8], bit[1], place[2], answer[55], told[2];
 } __attribute__((aligned(4096)));
 static struct answer ours, theirs;
 
 static void our_reading(void)
 {
     for (size_t a = 0; a < n; a++)
-        ours.number += aps2_read(words[a], ours.fields);
+        ours.number += aps2_read(words[a], ours.fields, ours.bit);
 }
 
 static void their_reading(void)
 {
     for (size_t a = 0; a < n; a++)
-        theirs.number += second_read(words[a], theirs.fields);
+        theirs.number += second_read(words[a], theirs.fields, theirs.bit);
 }
 
 static void our_check(void) { ours.number = aps2_check(words, n, WAVE, ours.lent, room, ours.place); }
@@ -95,11 +95,11 @@ static void listed_mixed(void)
 /* The listing of mixed words that can all be read back. */
 static void text_mixed(void)
 {
-    uint64_t fields[8];
+    uint64_t fields[8], bit[1];
     mixed();
     text_len = put_header(text);
     for (size_t a = 0; a < n; a++)
-        text_len += put_line(text + text_len, a, second_read(words[a], fields) ? PLAY : words[a]);
+        text_len += put_line(text + text_len, a, second_read(words[a], fields, bit) ? PLAY : words[a]);
 }
 
 /* From the last address down to the first, one GOTO after another. */
@@ -196,16 +196,18 @@ static int same(const uint64_t *a, const uint64_t *b, size_t count)
 
 static int agree(void)
 {
-    return ours.number == theirs.number && same(ours.place, theirs.place, 1) && same(ours.fields, theirs.fields, 8) &&
-           same(ours.answer, theirs.answer, 54) && same(ours.told, theirs.told, 2) && same(ours.lent, theirs.lent, room);
+    return ours.number == theirs.number && same(ours.place, theirs.place, 2) && same(ours.fields, theirs.fields, 8) &&
+           same(ours.bit, theirs.bit, 1) && same(ours.answer, theirs.answer, 55) && same(ours.told, theirs.told, 2) &&
+           same(ours.lent, theirs.lent, room);
 }
 
 static double once(struct answer *answer, void (*work)(void))
 {
     answer->number = 0;
-    clear(answer->place, 1);
+    clear(answer->place, 2);
     clear(answer->fields, 8);
-    clear(answer->answer, 54);
+    clear(answer->bit, 1);
+    clear(answer->answer, 55);
     clear(answer->told, 2);
     clear(answer->lent, room);
     double start = now();

@@ -1,4 +1,4 @@
-/* The check: document 01, "Check" and H8. The walk follows each address on from where its mark grew,
+/* The check: document 01, "Check" and H8, and document 02, request 2. The walk follows each address on from where its mark grew,
    all depths of a mark at once, and keeps a list of the addresses still to be followed. */
 #include "word.h"
 
@@ -133,9 +133,9 @@ static void walk(struct walk *w)
     }
 }
 
-uint64_t second_check(const uint64_t *words, size_t n, uint64_t wave, uint64_t *marks, size_t marks_len, uint64_t place[1])
+uint64_t second_check(const uint64_t *words, size_t n, uint64_t wave, uint64_t *marks, size_t marks_len, uint64_t place[2])
 {
-    place[0] = 0;
+    place[0] = place[1] = 0;
     uint64_t number = n == 0 ? 1 : n > WORDS ? 2 : wave > WAVE ? 3 : marks_len < n ? 4 : 0;
     if (number)
         return number;
@@ -143,7 +143,7 @@ uint64_t second_check(const uint64_t *words, size_t n, uint64_t wave, uint64_t *
         number = judge(words, n, wave, a);
         if (number) {
             place[0] = a;
-            return number;
+            return finer(number, &words[a], &place[1]);
         }
     }
     struct walk w;

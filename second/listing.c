@@ -1,5 +1,5 @@
-/* The listing: document 01, "The listing program". It is laid out on a page that has room for the longest one, and copied where it fits.
-   Each function writes from a place on and gives back the place behind what it wrote. */
+/* The listing: document 01, "The listing program", and document 02, request 2. It is laid out on a page that has room for the longest
+   one, and copied where it fits. Each function writes from a place on and gives back the place behind what it wrote. */
 #include "names.h"
 
 enum { WORDS = 2048, LINE = 64, PAGE = LINE * (WORDS + 1) };
@@ -33,10 +33,12 @@ static inline uint8_t *tabbed(uint8_t *to, uint64_t v)
 
 static uint8_t *line(uint8_t *to, uint64_t address, uint64_t word)
 {
-    uint64_t f[8], refused = second_read(word, f);
+    uint64_t f[8], bit[1], refused = second_read(word, f, bit);
     to = number(to, address);
     *to++ = '\t';
-    if (refused) {
+    if (refused >= 111) {
+        to = tabbed(tabbed(tabbed(text(to, "BAD"), UNNAMED), refused), bit[0]);
+    } else if (refused) {
         to = tabbed(text(to, "BAD"), refused);
     } else {
         to = text(to, names[f[0]]);

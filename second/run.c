@@ -1,4 +1,4 @@
-/* The run: document 01, "One step", in place on one state.
+/* The run: document 01, "One step", and document 02, request 2, in place on one state.
    The single numbers of the state stand apart from its lists, so that they can stay in registers. */
 #include "word.h"
 
@@ -183,7 +183,7 @@ static uint64_t step(struct state *s, struct lists *l, const struct input *in)
     return breaks_group(s->held, word) ? 22 : act(s, l, in, word);
 }
 
-static void tell(uint64_t end, const struct state *s, const struct lists *l, uint64_t answer[54])
+static void tell(uint64_t end, const struct state *s, const struct lists *l, uint64_t answer[55])
 {
     const uint64_t one[5] = { end, s->address, s->steps, s->used, s->sent }, two[5] = { s->counter, s->reg, s->condition, s->held, s->depth };
     for (int i = 0; i < 5; i++)
@@ -195,7 +195,7 @@ static void tell(uint64_t end, const struct state *s, const struct lists *l, uin
 }
 
 uint64_t second_run(const uint64_t *words, size_t n, uint64_t wave, const uint8_t *messages, size_t messages_len, uint32_t triggers,
-                    uint64_t *trace, size_t room, uint64_t budget, uint64_t answer[54])
+                    uint64_t *trace, size_t room, uint64_t budget, uint64_t answer[55])
 {
     const struct input in = { words, n, messages_len, room, wave, messages, triggers, trace };
     struct state s = { 0 };
@@ -205,6 +205,7 @@ uint64_t second_run(const uint64_t *words, size_t n, uint64_t wave, const uint8_
         end = s.steps == budget ? 40 : step(&s, &l, &in);
         s.steps += end == 0;
     }
+    end = finer(end, words + s.address, &answer[54]);
     tell(end, &s, &l, answer);
     return end;
 }

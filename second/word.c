@@ -1,4 +1,4 @@
-/* Reading and writing one word: document 01, "The word" and the form numbers. */
+/* Reading and writing one word: document 01, "The word" and the form numbers, and document 02, request 2. */
 #include "word.h"
 
 /* The table: how many fields a row has, and each field's high and low bit. WAIT and SYNC have their op as row,
@@ -30,9 +30,10 @@ static void clear(uint64_t fields[8])
         fields[i] = 0;
 }
 
-uint64_t second_read(uint64_t word, uint64_t fields[8])
+uint64_t second_read(uint64_t word, uint64_t fields[8], uint64_t bit[1])
 {
     clear(fields);
+    bit[0] = 0;
     if (word == ~UINT64_C(0)) {
         fields[0] = NOOP;
         return 0;
@@ -40,7 +41,7 @@ uint64_t second_read(uint64_t word, uint64_t fields[8])
     uint64_t number = take_apart(word, fields + 3);
     if (number) {
         clear(fields);
-        return number;
+        return finer(number, &word, bit);
     }
     fields[0] = GET(word, 63, 60);
     fields[1] = GET(word, 59, 58);

@@ -1,4 +1,5 @@
-/* One word taken apart: document 01's table and form numbers, for reading, writing, check and run alike. */
+/* One word taken apart: document 01's table and form numbers, with those of document 02, request 2, for reading, writing, check and run
+   alike. */
 #ifndef SECOND_WORD_H
 #define SECOND_WORD_H
 
@@ -10,6 +11,7 @@
 #define GET(w, hi, lo) ((w) >> (lo) & ONES(hi, lo))
 
 enum { WAVEFORM, MARKER, WAIT, LOAD_REPEAT, REPEAT, CMP, GOTO, CALL, RETURN, SYNC, MODULATOR, LOAD_CMP, PREFETCH, NOOP = 15 };
+enum { UNNAMED = 11 }; /* what request 2 of document 02 splits */
 
 #define HEADER (MASK(63, 60) | MASK(59, 58) | MASK(56, 56))
 #define PAYLOAD_OP MASK(47, 46)
@@ -31,6 +33,26 @@ static const uint64_t named[13] = {
     [LOAD_CMP] = HEADER | MASK(55, 0),
     [PREFETCH] = HEADER | TARGET,
 };
+
+/* The highest bit of each op code's highest field. */
+static const uint8_t top[13] = {
+    [WAVEFORM] = 47, [MARKER] = 47, [WAIT] = 47, [LOAD_REPEAT] = 15, [REPEAT] = 25, [CMP] = 9, [GOTO] = 25,
+    [CALL] = 25, [RETURN] = 55, [SYNC] = 47, [MODULATOR] = 47, [LOAD_CMP] = 55, [PREFETCH] = 25,
+};
+
+/* Document 02, request 2: what is told of a word in place of 11, and the highest bit that is set and not named, which settles it: header
+   bit 57, one above the highest field, or one in a gap. Any other number is told as it is, with bit 0, and the word is not looked at. */
+static inline uint64_t finer(uint64_t number, const uint64_t *word, uint64_t *bit)
+{
+    *bit = 0;
+    if (number != UNNAMED)
+        return number;
+    uint64_t code = GET(*word, 63, 60);
+    *bit = 57;
+    while (!((*word & ~named[code]) >> *bit & 1))
+        --*bit;
+    return *bit == 57 ? 111 : *bit > top[code] ? 112 : 113;
+}
 
 static inline uint64_t waveform_form(uint64_t op, uint64_t ta, uint64_t count, uint64_t address)
 {
@@ -80,7 +102,7 @@ static inline uint64_t take_apart(uint64_t word, uint64_t f[4])
     if (code > PREFETCH)
         return 10;
     if (word & ~named[code])
-        return 11;
+        return UNNAMED;
     switch (code) {
     case WAVEFORM:
         f[0] = op, f[1] = GET(word, 45, 45), f[2] = GET(word, 44, 24), f[3] = GET(word, 23, 0);

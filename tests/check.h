@@ -1,4 +1,4 @@
-/* What the comparisons share: random numbers from a printed seed, and a count of what was compared.
+/* What the comparisons share: random numbers from a printed seed, a count of what was compared, and what was met.
    A family that agrees prints `ok`, its name and its count; the first case that does not is printed with `FAIL`. */
 #ifndef CHECK_H
 #define CHECK_H
@@ -22,6 +22,26 @@ static inline uint64_t below(uint64_t n) { return random64() % n; }
 static uint64_t compared;
 static int failed;
 
+/* How often each number was given, in this family and ever, so that none passes by never meeting one; what is no number counts as the
+   last. And how often each bit was told in this family, by op code. */
+enum { MET = 115 };
+static uint64_t met[MET], ever[MET], told_bits[16][64];
+
+static inline void meet(uint64_t number)
+{
+    number = number < MET ? number : MET - 1;
+    met[number]++;
+    ever[number]++;
+}
+
+static inline void forget(void)
+{
+    for (int n = 0; n < MET; n++)
+        met[n] = 0;
+    for (int i = 0; i < 16 * 64; i++)
+        told_bits[i / 64][i % 64] = 0;
+}
+
 /* Ends a family: one line. One that compared nothing has not agreed. */
 static inline void family(const char *name)
 {
@@ -33,6 +53,16 @@ static inline void family(const char *name)
         printf("FAIL %s\n", name);
     compared = 0;
     failed = 0;
+    forget();
+}
+
+/* Ends a family, which must have met the numbers that it is there for; the list ends with -1. */
+static inline void family_of(const char *name, const int *numbers)
+{
+    for (; *numbers >= 0; numbers++)
+        if (!met[*numbers] && !failed)
+            failed = 1, printf("  %d was never met\n", *numbers);
+    family(name);
 }
 
 #endif

@@ -1,51 +1,39 @@
-/* Checks, compared with the second program: the number, its place, and every mark, the tail included; flow also with the plain walk over
-   places. The document's cases, random sequences, all small ones, groups, nests to the stack's end, conditions before jumps, and the
-   bounds of every input. A sequence that is accepted is then run, and must not fault. */
+/* Checks, compared with the second program: the number, its place, its bit, and every mark, the tail included; flow also with the plain
+   walk over places. The document's cases, random sequences, all small ones, groups, nests to the stack's end, conditions before jumps,
+   unnamed bits, and the bounds of every input. A sequence that is accepted is then run, and must not fault. */
 #include "../include/aps2.h"
 #include "../second/second.h"
-#include "sequences.h"
+#include "bits.h"
 
 #define MOST 65540
 #define SMALL 64 /* words up to which flow is also compared with the plain walk over places */
 
-static uint64_t words[MOST], ours[MOST], theirs[MOST], trace[256], answer[54];
+static uint64_t words[MOST], ours[MOST], theirs[MOST], our_place[2], their_place[2], trace[256], answer[55];
 static uint8_t messages[8] = { 0, 1, 2, 3, 0, 200, 1, 255 };
-
-/* How often each number was met in this family. */
-static uint64_t met[64];
-
-/* Ends a family, which must have met the numbers that it is there for; the list ends with -1. */
-static void family_of(const char *name, const int *numbers)
-{
-    for (; *numbers >= 0; numbers++)
-        if (!met[*numbers] && !failed)
-            failed = 1, printf("  %d was never met\n", *numbers);
-    for (int number = 0; number < 64; number++)
-        met[number] = 0;
-    family(name);
-}
 
 static uint64_t try_check(size_t n, uint64_t wave, size_t room)
 {
-    uint64_t our_place[1] = { random64() }, their_place[1] = { random64() };
+    for (int i = 0; i < 2; i++)
+        our_place[i] = random64(), their_place[i] = random64();
     for (size_t i = 0; i < room + 2; i++)
         ours[i] = theirs[i] = random64();
     uint64_t number = aps2_check(words, n, wave, ours, room, our_place), other = second_check(words, n, wave, theirs, room, their_place);
-    int good = number == other && our_place[0] == their_place[0];
+    int good = number == other && our_place[0] == their_place[0] && our_place[1] == their_place[1];
+    good = good && tells_at(words, our_place[0], number, our_place[1]);
     for (size_t i = 0; i < room + 2; i++)
         good &= ours[i] == theirs[i];
-    if (good && n <= SMALL && (number == 0 || number >= 30)) {
+    if (good && n <= SMALL && (number == 0 || (number >= 30 && number <= 32))) {
         good = second_places(words, n, theirs, their_place) == number && our_place[0] == their_place[0];
         for (size_t i = 0; i < n; i++)
             good &= ours[i] == theirs[i];
     }
     compared++;
-    met[number < 64 ? number : 63]++;
+    meet(number);
     if (!good && !failed) {
         failed = 1;
-        printf("  n %llu, W %llu, room %llu: %llu at %llu, second %llu at %llu\n  words", (unsigned long long)n, (unsigned long long)wave,
-               (unsigned long long)room, (unsigned long long)number, (unsigned long long)our_place[0], (unsigned long long)other,
-               (unsigned long long)their_place[0]);
+        printf("  n %llu, W %llu, room %llu: %llu at %llu, bit %llu, second %llu at %llu, bit %llu\n  words", (unsigned long long)n,
+               (unsigned long long)wave, (unsigned long long)room, (unsigned long long)number, (unsigned long long)our_place[0],
+               (unsigned long long)our_place[1], (unsigned long long)other, (unsigned long long)their_place[0], (unsigned long long)their_place[1]);
         for (size_t i = 0; i < n && i < 40; i++)
             printf(" %llx", (unsigned long long)words[i]);
         printf("\n");
@@ -91,11 +79,11 @@ static void worked(void)
 {
     for (size_t k = 0; k < sizeof cases / sizeof *cases; k++) {
         const struct worked *c = &cases[k];
-        uint64_t place[1] = { 99 };
+        uint64_t place[2] = { 99, 99 };
         for (size_t i = 0; i < c->n; i++)
             words[i] = c->words[i];
         try_check(c->n, c->wave, c->n);
-        if ((aps2_check(words, c->n, c->wave, ours, c->n, place) != c->number || place[0] != c->place) && !failed)
+        if ((aps2_check(words, c->n, c->wave, ours, c->n, place) != c->number || place[0] != c->place || place[1]) && !failed)
             failed = 1, printf("  case %llu is not as told\n", (unsigned long long)k);
     }
     if (try_check(65537, 0, 65537) != 2)
@@ -148,7 +136,7 @@ static void groups(void)
                     words[below(low + 2)] ^= UINT64_C(1) << below(64);
                 try_check(low + 2 - (damaged == 1), 8, low + 2);
             }
-    family_of("check: groups of up to ten low words, with every op code after them", (const int[]){ 0, 10, 11, 22, -1 });
+    family_of("check: groups of up to ten low words, with every op code after them", (const int[]){ 0, 10, 22, 111, 112, 113, -1 });
 }
 
 /* Calls one deeper each, to the stack's end and one past it, with returns and conditions between. */
@@ -199,6 +187,84 @@ static void conditions(void)
     family_of("check: conditions before each kind of jump", (const int[]){ 0, 30, 31, 32, -1 });
 }
 
+#define PLAY OP(0, HIGH | UINT64_C(2) << 24)
+#define LOW OP(0, UINT64_C(2) << 24)
+
+/* The words under test are checked, and what is told must be this. */
+static void expect(size_t n, size_t place, struct told t)
+{
+    uint64_t number = try_check(n, 8, n + below(3));
+    if ((number != t.number || our_place[0] != place || our_place[1] != t.bit) && !failed)
+        failed = 1, printf("  %llu at %llu is expected, with bit %llu\n", (unsigned long long)t.number, (unsigned long long)place,
+                           (unsigned long long)t.bit);
+}
+
+/* A word at the first place, one between and the last; the words behind it may be refused too, and do not count. */
+static void try_places(uint64_t word, struct told t)
+{
+    size_t n = 3 + below(7), places[3] = { 0, 1 + below(n - 2), n - 1 };
+    for (int k = 0; k < 3; k++) {
+        for (size_t a = 0; a < n; a++)
+            words[a] = a > places[k] && below(4) == 0 ? with_bits(ANYTHING, 10, some_bits(10)) : PLAY;
+        words[places[k]] = word;
+        expect(n, places[k], t);
+    }
+}
+
+/* A word behind low ones, and behind it one that sends them or none. The low ones pass where it is an engine word and it or the next sends
+   them, and its own number is told; else the first of them is refused. */
+static void try_group(uint64_t word, struct told t)
+{
+    size_t low = 1 + below(6);
+    uint64_t code = word >> 60, next = below(2) ? PLAY : OP(6, 0);
+    for (size_t a = 0; a < low; a++)
+        words[a] = LOW;
+    words[low] = word;
+    words[low + 1] = next;
+    if ((code == 0 || code == 1 || code == 10) && ((word | next) & HIGH))
+        expect(low + 2, low, t);
+    else
+        expect(low + 2, 0, (struct told){ 22, 0 });
+}
+
+static void try_bits(uint64_t code, uint64_t bits)
+{
+    uint64_t word = with_bits(GOOD, code, bits);
+    try_places(word, told_of(word));
+}
+
+static void try_bits_in_group(uint64_t code, uint64_t bits)
+{
+    uint64_t word = with_bits(any_base(), code, bits);
+    try_group(word, told_of(word));
+}
+
+static void unnamed(void)
+{
+    each_unnamed(try_bits);
+    family_of_bits("check: every unnamed bit of every op code, alone, in pairs and several at once, at every place");
+    each_unnamed(try_bits_in_group);
+    family_of("check: unnamed bits behind low words", (const int[]){ 22, 111, 112, 113, -1 });
+    each_beside(try_places);
+    each_beside(try_group);
+    family_of("check: unnamed bits beside other refusals", beside_placed);
+}
+
+/* Refused input comes before any word, and tells no bit. */
+static void bad_words_and_bad_input(void)
+{
+    for (int k = 0; k < 400; k++) {
+        size_t n = 1 + below(4);
+        for (size_t a = 0; a < n; a++)
+            words[a] = with_bits(ANYTHING, 2, some_bits(2));
+        try_check(0, 8, n);
+        try_check(n, 16777217, n);
+        try_check(n, 8, n - 1);
+        try_check(n, 8, n);
+    }
+    family_of("check: refused input before unnamed bits", (const int[]){ 1, 3, 4, 111, 112, 113, -1 });
+}
+
 static void bounds(void)
 {
     static const size_t lengths[] = { 0, 1, 2, 65535, 65536, 65537 };
@@ -225,6 +291,8 @@ int main(void)
     groups();
     nests();
     conditions();
+    unnamed();
+    bad_words_and_bad_input();
     bounds();
     return 0;
 }

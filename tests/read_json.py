@@ -16,8 +16,17 @@ def only(thing, names):
 
 def line(word):
     name = word['name']
-    names = ['place', 'name'] + (['number'] if name == 'BAD' else [] if name == 'NOOP' else ['engine', 'write'] + HEADS.get(name, []))
+    bad = ['number', 'kind', 'bit'] if word.get('number') == 11 else ['number']
+    names = ['place', 'name'] + (bad if name == 'BAD' else [] if name == 'NOOP' else ['engine', 'write'] + HEADS.get(name, []))
     return '\t'.join(str(value) for value in only(word, names))
+
+
+def told(number, bit):
+    """Beside 111 to 113 the bit, which is 0 beside every other number."""
+    if 111 <= number <= 113:
+        return ', bit %d' % bit
+    assert bit == 0, (number, bit)
+    return ''
 
 
 def listed(a):
@@ -28,10 +37,10 @@ def listed(a):
 def checked(a):
     if a['status'] == 2:
         return [only(a, ['file', 'status'])[0] + ': no answer']
-    file, status, number, place, words, wave = only(a, ['file', 'status', 'number', 'place', 'words', 'wave'])
+    file, status, number, place, bit, words, wave = only(a, ['file', 'status', 'number', 'place', 'bit', 'words', 'wave'])
     assert status == (number != 0)
     said = 'accepted: %d words' % words if number == 0 else 'refused: %d' % number + (' at word %d' % place if words else '')
-    return [file + ': ' + said]
+    return [file + ': ' + said + told(number, bit)]
 
 
 def engines(counts):
@@ -40,13 +49,13 @@ def engines(counts):
 
 def ran(a):
     core = ['address', 'steps', 'messages_used', 'trace_length', 'repeat_counter', 'register', 'condition', 'held', 'stack_depth']
-    values = only(a, ['file', 'status', 'end', 'words', 'wave'] + core + ['stack', 'trigger_waits', 'quad_samples', 'trace'])
-    said = [name.replace('_', ' ') + '\t' + str(value) for name, value in zip(core, values[5:14])]
+    values = only(a, ['file', 'status', 'end', 'bit', 'words', 'wave'] + core + ['stack', 'trigger_waits', 'quad_samples', 'trace'])
+    said = [name.replace('_', ' ') + '\t' + str(value) for name, value in zip(core, values[6:15])]
     for depth, entry in enumerate(a['stack']):
         said.append('\tentry %d\treturns to %d\tcounter\t%d' % tuple([depth] + only(entry, ['returns_to', 'counter'])))
     assert len(a['stack']) == a['stack_depth'] and len(a['trace']) == a['trace_length']
     said += ['trigger waits'] + engines(a['trigger_waits']) + ['quad-samples'] + engines(a['quad_samples'])
-    return ['end %d' % a['end']] + said + ['trace %d' % len(a['trace'])] + a['trace']
+    return ['end %d' % a['end'] + told(a['end'], a['bit'])] + said + ['trace %d' % len(a['trace'])] + a['trace']
 
 
 says = {'list': listed, 'check': checked, 'run': ran}[sys.argv[1]]

@@ -3,6 +3,7 @@
    by itself, and with its text where that is short. */
 #include "../include/aps2.h"
 #include "../second/second.h"
+#include "bits.h"
 #include "texts.h"
 
 #define SHORT 400
@@ -10,8 +11,8 @@
 /* What each program makes of the text; `before` is what both buffers held. */
 static uint64_t ours[MOST + 64 + BEHIND], theirs[MOST + 64 + BEHIND], before[MOST + 64 + BEHIND], words[MOST];
 
-/* Which case this is, and how often each number was given, so that no family passes by never meeting one. */
-static uint64_t this_family, this_case, this_seed, met[65];
+/* Which case this is. */
+static uint64_t this_family, this_case, this_seed;
 
 static void show_answer(const char *who, uint64_t number, const uint64_t told[2])
 {
@@ -68,7 +69,7 @@ static void show_word(size_t room)
 }
 
 /* Both programs read the text; the answers, the buffers and their tails are compared. */
-static void try_read(size_t room)
+static uint64_t try_read(size_t room)
 {
     uint64_t told[2], second_told[2];
     lend(room, told, second_told);
@@ -79,7 +80,7 @@ static void try_read(size_t room)
     for (size_t i = 0; i < room + BEHIND; i++)
         good &= ours[i] == theirs[i];
     compared++;
-    met[number < 65 ? number : 1]++;
+    meet(number);
     if (!good && !failed) {
         failed = 1;
         show_case(room);
@@ -87,6 +88,7 @@ static void try_read(size_t room)
         show_answer("second", second, second_told);
         show_word(room);
     }
+    return number;
 }
 
 /* Rooms around n words: none, one short, just enough, any, and mostly more than enough. */
@@ -180,6 +182,29 @@ static void try_listed(uint64_t k)
         put_word(a, k % 2 ? good_word() : any_listed());
     try_read(room_around(n));
     try_read(n);
+}
+
+/* A `BAD` line, as a word with unnamed bits is listed, or with other fields, or none: 63 where it stands in turn, else 62, and 61 without
+   its line feed. Whether there is room for a word is not asked. */
+static const char *const behind_bad[] = { "", "\t", "\t11", "\t111", "\t112\t55", "\t11\t112", "\t11\t113\t0\t0", "\t011\t+113\tx", "\t12\t0" };
+#define BEHIND_BAD (sizeof behind_bad / sizeof *behind_bad)
+
+static void try_bad(uint64_t k)
+{
+    static const uint64_t expected[] = { 63, 62, 61 };
+    uint64_t flaw = k % 3, which = k / 3 % (CODES + BEHIND_BAD);
+    size_t ahead = below(4), address = ahead + (flaw == 1);
+    start_text(ahead);
+    if (which < CODES)
+        put_word(address, with_bits(any_base(), which, some_bits(which)));
+    else
+        put_decimal(address), put_bytes("\tBAD"), put_bytes(behind_bad[which - CODES]), put_bytes("\n");
+    if (flaw == 2)
+        len--;
+    else if (below(2))
+        put_word(ahead + 1, any_listed());
+    if (try_read(ahead + below(3)) != expected[flaw] && !failed)
+        failed = 1, show_case(ahead), printf("  %llu is expected\n", (unsigned long long)expected[flaw]);
 }
 
 static void try_damages(uint64_t count)
@@ -441,6 +466,7 @@ static const struct {
     { "read listing: addresses out of turn", ROWS * SHIFTS * 12, try_address },
     { "read listing: lines of all names, with any fields", 20000, try_fields },
     { "read listing: random words as they are listed, and BAD ones", 4000, try_listed },
+    { "read listing: BAD lines, of unnamed bits and with other fields", 3 * (CODES + BEHIND_BAD) * 30, try_bad },
     { "read listing: one damage", 8000, try_damage },
     { "read listing: several damages", 4000, try_more_damages },
     { "read listing: numbers around 2^64, and not plain, at every place", ROWS * NUMBERS * 7, try_number },
@@ -457,10 +483,10 @@ static const struct {
 
 static void all_met(void)
 {
-    for (uint64_t n = 0; n < 65; n++) {
-        int can = n == 0 || (n >= 13 && n <= 19) || n == 23 || n >= 60;
-        if ((met[n] > 0) != can)
-            failed = 1, printf("  number %llu: %llu times\n", (unsigned long long)n, (unsigned long long)met[n]);
+    for (uint64_t n = 0; n < MET; n++) {
+        int can = n == 0 || (n >= 13 && n <= 19) || n == 23 || (n >= 60 && n <= 64);
+        if ((ever[n] > 0) != can)
+            failed = 1, printf("  number %llu: %llu times\n", (unsigned long long)n, (unsigned long long)ever[n]);
         compared += (uint64_t)can;
     }
     family("read listing: every number was met");

@@ -1,17 +1,16 @@
 /* Runs, compared with the second program field by field and word by word: the document's cases, random sequences at many budgets,
-   rooms, messages and triggers around where they stop, the bounds of every input, and runs of the full million steps. */
+   rooms, messages and triggers around where they stop, unnamed bits, the bounds of every input, and runs of the full million steps. */
 #include "../include/aps2.h"
 #include "../second/second.h"
-#include "sequences.h"
+#include "bits.h"
 
 #define MOST 65537
 #define ROOM 4096
+#define BEHIND 8 /* words of buffer behind what is lent */
+#define ANSWER 55
 
-static uint64_t words[MOST], ours[54], theirs[54], our_trace[ROOM + 8], their_trace[ROOM + 8], old_trace[ROOM + 8];
+static uint64_t words[MOST], ours[ANSWER], theirs[ANSWER], our_trace[ROOM + BEHIND], their_trace[ROOM + BEHIND], old_trace[ROOM + BEHIND];
 static uint8_t messages[64];
-
-/* How often each end was met, so that no family passes by never meeting one. */
-static uint64_t met[64];
 
 struct input {
     size_t n, messages, room;
@@ -26,28 +25,38 @@ static void show(const struct input *in)
            (unsigned long long)in->budget, (unsigned long long)ours[0], (unsigned long long)theirs[0]);
     for (size_t i = 0; i < in->n && i < 40; i++)
         printf(" %llx", (unsigned long long)words[i]);
-    for (int i = 0; i < 54; i++)
+    for (int i = 0; i < ANSWER; i++)
         if (ours[i] != theirs[i])
             printf("\n  answer %d: %llu, second %llu", i, (unsigned long long)ours[i], (unsigned long long)theirs[i]);
     printf("\n");
 }
 
-/* Both programs run; the answers, the traces and their tails are compared. */
+/* The traces and their tails, as both programs left them. They are then put back, so that a word written far behind stays until all is
+   looked at. */
+static int same_traces(size_t seen)
+{
+    int good = 1;
+    for (size_t i = 0; i < seen; i++) {
+        good &= our_trace[i] == their_trace[i] && (i < ours[4] || our_trace[i] == old_trace[i]);
+        our_trace[i] = their_trace[i] = old_trace[i];
+    }
+    return good;
+}
+
+/* Both programs run; the answers, the traces and their tails are compared, and at times the whole buffers. */
 static uint64_t try_run(struct input in)
 {
-    for (size_t i = 0; i < ROOM + 8; i++)
-        our_trace[i] = their_trace[i] = old_trace[i];
-    for (int i = 0; i < 54; i++)
+    for (int i = 0; i < ANSWER; i++)
         ours[i] = random64(), theirs[i] = random64();
     uint64_t end = aps2_run(words, in.n, in.wave, messages, in.messages, in.triggers, our_trace, in.room, in.budget, ours);
     uint64_t other = second_run(words, in.n, in.wave, messages, in.messages, in.triggers, their_trace, in.room, in.budget, theirs);
     int good = end == other && ours[0] == end;
-    for (int i = 0; i < 54; i++)
+    for (int i = 0; i < ANSWER; i++)
         good &= ours[i] == theirs[i];
-    for (size_t i = 0; i < ROOM + 8; i++)
-        good &= our_trace[i] == their_trace[i] && (i < ours[4] || our_trace[i] == old_trace[i]);
+    good = good && tells_at(words, ours[1], end, ours[54]);
+    good &= same_traces(compared % 64 ? in.room + BEHIND : ROOM + BEHIND);
     compared++;
-    met[end < 64 ? end : 0]++;
+    meet(end);
     if (!good) {
         if (!failed)
             show(&in);
@@ -144,7 +153,103 @@ static void damaged(void)
         struct input in = { 3, below(2), 1, 8, 5, 0 };
         try_run(in);
     }
-    family("run: damaged words");
+    family_of("run: damaged words", (const int[]){ 10, 12, 111, 112, 113, -1 });
+}
+
+/* What a run tells that stops at a word: number, address, steps, trace length, held, bit. Each word before it was a step, and those that are
+   not held were sent. */
+static void expect_stop(const struct input *in, struct told t, uint64_t address, uint64_t held)
+{
+    const uint64_t expected[] = { t.number, address, address, address - held, held, t.bit };
+    static const int places[] = { 0, 1, 2, 4, 20, 54 };
+    try_run(*in);
+    for (int i = 0; i < 6; i++)
+        if (ours[places[i]] != expected[i] && !failed++)
+            show(in), printf("  answer %d: %llu is expected\n", places[i], (unsigned long long)expected[i]);
+}
+
+/* A word at the first place, one between and the last, behind words that were sent or that are held; and with a budget that does not
+   reach it. */
+static void try_places(uint64_t word, struct told t)
+{
+    size_t n = 3 + below(6), places[3] = { 0, 1 + below(n - 2), n - 1 };
+    for (int k = 0; k < 6; k++) {
+        size_t place = places[k % 3], low = k < 3 || place == 0 ? 0 : 1 + below(place);
+        for (size_t a = 0; a < n; a++)
+            words[a] = a < place ? OP(0, (a + low < place ? HIGH : 0) | UINT64_C(2) << 24) : OP(6, 0);
+        words[place] = word;
+        struct input in = { n, 0, 8, 8, 60, 0 };
+        expect_stop(&in, t, place, low);
+        in.budget = place;
+        if (k % 3 == 1)
+            expect_stop(&in, (struct told){ 40, 0 }, place, low);
+    }
+}
+
+static void try_bits(uint64_t code, uint64_t bits)
+{
+    uint64_t word = with_bits(GOOD, code, bits);
+    try_places(word, told_of(word));
+}
+
+/* Such a word where every entry of the stack is in use, and where a run goes round it. */
+static void try_late(uint64_t code, uint64_t bits)
+{
+    uint64_t word = with_bits(any_base(), code, bits);
+    words[0] = OP(3, 1 + below(65535));
+    for (size_t a = 1; a <= 16; a++)
+        words[a] = OP(7, a + 1);
+    words[17] = word;
+    struct input in = { 18 + below(2), 0, 0, 8, 60, 0 };
+    struct told t = told_of(word);
+    if ((try_run(in) != t.number || ours[1] != 17 || ours[21] != 16 || ours[53] != ours[17] || ours[54] != t.bit) && !failed++)
+        show(&in), printf("  %llu is expected, with bit %llu\n", (unsigned long long)t.number, (unsigned long long)t.bit);
+    words[0] = OP(6, 2);
+    words[1] = word;
+    words[2] = OP(6, 0);
+    in.n = 3;
+    if ((try_run(in) != 40 || ours[54]) && !failed++)
+        show(&in), printf("  40 is expected, with no bit\n");
+}
+
+/* A good word that is no engine word behind held ones: 22, and no bit; with an unnamed bit that is told first. */
+static void try_breaking(uint64_t code, uint64_t bits)
+{
+    uint64_t word = good_of(code);
+    struct input in = { 4, 0, 8, 8, 60, 0 };
+    if (code == 0 || code == 1 || code == 10)
+        return;
+    words[0] = words[1] = OP(0, UINT64_C(2) << 24);
+    words[2] = word;
+    words[3] = OP(6, 0);
+    expect_stop(&in, (struct told){ 22, 0 }, 2, 2);
+    words[2] = word | bits;
+    expect_stop(&in, told_of(words[2]), 2, 2);
+}
+
+/* Refused input comes before any word, and tells no bit. */
+static void bad_words_and_bad_input(void)
+{
+    for (int k = 0; k < 400; k++) {
+        for (size_t a = 0; a < 3; a++)
+            words[a] = with_bits(ANYTHING, 2, some_bits(2));
+        try_run((struct input){ 0, 0, 8, 8, 60, 0 });
+        try_run((struct input){ 3, 0, 8, 16777217, 60, 0 });
+        try_run((struct input){ 3, 0, 8, 8, 1000001, 0 });
+        try_run((struct input){ 3, 0, 8, 8, 60, 0 });
+    }
+    family_of("run: refused input before unnamed bits", (const int[]){ 1, 3, 5, 111, 112, 113, -1 });
+}
+
+static void unnamed(void)
+{
+    each_unnamed(try_bits);
+    family_of_bits("run: every unnamed bit of every op code, alone, in pairs and several at once, at every place, with words held and without");
+    each_unnamed(try_late);
+    family_of_bits("run: unnamed bits under a full stack, and passed by");
+    each_beside(try_places);
+    each_unnamed(try_breaking);
+    family_of("run: unnamed bits beside other refusals", beside_placed);
 }
 
 static void nests(void)
@@ -250,24 +355,30 @@ static void worked(void)
 
 static void all_met(void)
 {
-    static const int ends[] = { 1, 2, 3, 5, 10, 11, 12, 13, 14, 15, 16, 17, 18, 19, 20, 21, 22, 30, 31, 32, 40, 41, 42, 43 };
-    for (size_t i = 0; i < sizeof ends / sizeof *ends; i++) {
-        if (!met[ends[i]])
-            failed = 1, printf("  end %d was never met\n", ends[i]);
-        compared++;
+    for (int n = 0; n < MET; n++) {
+        int input = (n >= 1 && n <= 3) || n == 5, word = n == 10 || (n >= 111 && n <= 113) || (n >= 12 && n <= 22);
+        int can = input || word || (n >= 30 && n <= 32) || (n >= 40 && n <= 43);
+        if ((ever[n] > 0) != can)
+            failed = 1, printf("  end %d: %llu times\n", n, (unsigned long long)ever[n]);
+        compared += (uint64_t)can;
     }
+    ours[4] = 0;
+    if (!same_traces(ROOM + BEHIND))
+        failed = 1, printf("  something was written behind a trace\n");
     family("run: every end was met");
 }
 
 int main(void)
 {
     printf("seed %llu\n", (unsigned long long)seed);
-    for (size_t i = 0; i < ROOM + 8; i++)
-        old_trace[i] = random64();
+    for (size_t i = 0; i < ROOM + BEHIND; i++)
+        our_trace[i] = their_trace[i] = old_trace[i] = random64();
     worked();
     small_runs();
     groups();
     damaged();
+    unnamed();
+    bad_words_and_bad_input();
     nests();
     bounds();
     random_runs();

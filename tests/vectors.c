@@ -59,15 +59,17 @@ static void disagree(uint64_t line)
 static void read_cases(void)
 {
     while (more()) {
-        uint64_t word = number(16), expected = number(10), fields[8];
-        int good = aps2_read(word, fields) == expected;
+        uint64_t word = number(16), expected = number(10), fields[8], bit[1] = { 99 };
+        int good = aps2_read(word, fields, bit) == expected;
         for (int i = 0; i < 8; i++)
             good &= number(10) == fields[i];
+        good &= number(10) == bit[0];
         compared++;
+        meet(expected);
         if (!good)
             disagree(compared);
     }
-    family("vectors: read");
+    family_of("vectors: read", (const int[]){ 0, 10, 12, 13, 14, 15, 16, 17, 18, 19, 111, 112, 113, -1 });
 }
 
 static void write_cases(void)
@@ -94,45 +96,48 @@ static uint8_t messages[MOST];
 static void run_cases(void)
 {
     while (more()) {
-        uint64_t wave = number(10), answer[54], expected[54];
+        uint64_t wave = number(10), answer[55], expected[55];
+        for (int i = 0; i < 55; i++)
+            answer[i] = 99;
         size_t n = numbers(16, words, MOST), m = numbers(10, listed, MOST);
         for (size_t i = 0; i < m; i++)
             messages[i] = (uint8_t)listed[i];
         uint64_t triggers = number(10), room = number(10), budget = number(10);
-        numbers(10, expected, 54);
-        size_t sent = numbers(16, dispatched, MOST);
+        size_t fields = numbers(10, expected, 55), sent = numbers(16, dispatched, MOST);
         for (size_t i = 0; i < MOST; i++)
             trace[i] = i * 3 + 1;
-        int good = aps2_run(words, n, wave, messages, m, (uint32_t)triggers, trace, room, budget, answer) == expected[0];
-        for (int i = 0; i < 54; i++)
+        int good = aps2_run(words, n, wave, messages, m, (uint32_t)triggers, trace, room, budget, answer) == expected[0] && fields == 55;
+        for (int i = 0; i < 55; i++)
             good &= answer[i] == expected[i];
         for (size_t i = 0; i < MOST; i++)
             good &= trace[i] == (i < sent ? dispatched[i] : i * 3 + 1);
         compared++;
+        meet(expected[0]);
         if (!good)
             disagree(compared);
     }
-    family("vectors: run");
+    family_of("vectors: run", (const int[]){ 40, 111, 112, 113, -1 });
 }
 
 /* Marks are hexadecimal, and all 1 before. */
 static void check_cases(void)
 {
     while (more()) {
-        uint64_t wave = number(10), place[1];
+        uint64_t wave = number(10), place[2] = { 99, 99 };
         size_t n = numbers(16, words, MOST), room = number(10);
-        uint64_t expected = number(10), at = number(10);
+        uint64_t expected = number(10), at = number(10), bit = number(10);
         size_t marks = numbers(16, listed, MOST);
         for (size_t i = 0; i < MOST; i++)
             trace[i] = 1;
-        int good = aps2_check(words, n, wave, trace, room, place) == expected && place[0] == at && marks == room;
+        int good = aps2_check(words, n, wave, trace, room, place) == expected && place[0] == at && place[1] == bit && marks == room;
         for (size_t i = 0; i < MOST; i++)
             good &= trace[i] == (i < marks ? listed[i] : 1);
         compared++;
+        meet(expected);
         if (!good)
             disagree(compared);
     }
-    family("vectors: check");
+    family_of("vectors: check", (const int[]){ 0, 111, 112, 113, -1 });
 }
 
 #define TEXT 200000

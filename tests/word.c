@@ -1,8 +1,8 @@
 /* Reading and writing, compared with the second program: every op code with every field at its edges and past them,
-   every single-bit damage of valid words, and random words; what is read is also written back. */
+   every single-bit damage of valid words, unnamed bits, and random words; what is read is also written back. */
 #include "../include/aps2.h"
 #include "../second/second.h"
-#include "check.h"
+#include "bits.h"
 
 /* The width of each field that a row of the table can have, the header's first; rows by op code. */
 static const int header_low[4] = { 60, 58, 57, 56 };
@@ -65,16 +65,16 @@ static int same(const uint64_t a[8], const uint64_t b[8])
 
 static uint64_t writes;
 
-/* How often each number was given, so that no family passes by never meeting one. */
-static uint64_t met_reading[24], met_writing[24];
+/* How often each number was given in writing. */
+static uint64_t ever_writing[MET];
 
 static void all_met(void)
 {
-    for (int n = 0; n < 24; n++) {
-        int reading = n == 0 || (n >= 10 && n <= 19), writing = n == 0 || n == 10 || (n >= 13 && n <= 19) || n == 23;
-        if ((met_reading[n] > 0) != reading || (met_writing[n] > 0) != writing)
-            failed = 1, printf("  number %d: read %llu times, written %llu times\n", n, (unsigned long long)met_reading[n], (unsigned long long)met_writing[n]);
-        compared += reading + writing;
+    for (int n = 0; n < MET; n++) {
+        int both = n == 0 || n == 10 || (n >= 13 && n <= 19), reading = both || n == 12 || (n >= 111 && n <= 113), writing = both || n == 23;
+        if ((ever[n] > 0) != reading || (ever_writing[n] > 0) != writing)
+            failed = 1, printf("  number %d: read %llu times, written %llu times\n", n, (unsigned long long)ever[n], (unsigned long long)ever_writing[n]);
+        compared += (uint64_t)(reading + writing);
     }
     family("word: every number was met");
 }
@@ -85,7 +85,7 @@ static uint64_t try_write(const uint64_t fields[8])
     uint64_t ours[1] = { random64() }, theirs[1] = { random64() };
     uint64_t n = aps2_write(fields, ours), m = second_write(fields, theirs);
     writes++;
-    met_writing[n < 24 ? n : 1]++;
+    ever_writing[n < MET ? n : MET - 1]++;
     if (n != m || ours[0] != theirs[0] || (n && ours[0])) {
         if (!failed)
             show("write", n, fields), printf("  ours %llx, second %llu %llx\n", (unsigned long long)ours[0], (unsigned long long)m, (unsigned long long)theirs[0]);
@@ -97,20 +97,21 @@ static uint64_t try_write(const uint64_t fields[8])
 /* Both programs read a word; an accepted word is written back. */
 static uint64_t try_read(uint64_t word)
 {
-    uint64_t ours[8], theirs[8], back[1];
+    uint64_t ours[8], theirs[8], our_bit[1] = { random64() }, their_bit[1] = { random64() }, back[1];
     fill(ours);
     fill(theirs);
-    uint64_t n = aps2_read(word, ours), m = second_read(word, theirs);
+    uint64_t n = aps2_read(word, ours, our_bit), m = second_read(word, theirs, their_bit);
     compared++;
-    met_reading[n < 24 ? n : 1]++;
-    int good = n == m && same(ours, theirs);
+    meet(n);
+    int good = n == m && same(ours, theirs) && our_bit[0] == their_bit[0] && tells(word, n, our_bit[0]);
     if (good && n == 0) {
         uint64_t code = word >> 60, kept = code == 8 || code == 11 ? word >> 56 << 56 : word;
         good = aps2_write(ours, back) == 0 && back[0] == kept && try_write(ours) == 0;
     }
     if (!good) {
         if (!failed)
-            printf("  word %llx\n", (unsigned long long)word), show("ours", n, ours), show("second", m, theirs);
+            printf("  word %llx, bit %llu, second %llu\n", (unsigned long long)word, (unsigned long long)our_bit[0], (unsigned long long)their_bit[0]),
+                show("ours", n, ours), show("second", m, theirs);
         failed = 1;
     }
     return n;
@@ -167,6 +168,34 @@ static void read_random(void)
     family("read: random words");
 }
 
+static void try_unnamed(uint64_t code, uint64_t bits)
+{
+    for (int base = 0; base < BASES; base++)
+        try_read(with_bits(base, code, bits));
+}
+
+/* A word that is judged by its placing reads well. */
+static void try_beside(uint64_t word, struct told t)
+{
+    if (try_read(word) != (t.number == 20 || t.number == 21 ? 0 : t.number) && !failed)
+        failed = 1, printf("  word %llx is not refused with %llu\n", (unsigned long long)word, (unsigned long long)t.number);
+}
+
+static void read_unnamed(void)
+{
+    each_unnamed(try_unnamed);
+    family_of_bits("read: every unnamed bit of every op code, alone, in pairs and several at once");
+    for (int n = 0; n < 40000; n++) {
+        uint64_t code = below(CODES);
+        try_read(with_bits(n % BASES, code, some_bits(code)));
+    }
+    family_of_bits("read: random words with unnamed bits");
+    each_beside(try_beside);
+    for (int n = 0; n < 4000; n++)
+        try_read(random64() | OP(13 + below(3), UINT64_C(1) << 57));
+    family_of("read: unnamed bits beside other refusals", beside);
+}
+
 static void write_edges(void)
 {
     for (int code = 0; code < 18; code++)
@@ -198,6 +227,7 @@ int main(void)
     read_edges();
     read_damaged();
     read_random();
+    read_unnamed();
     writes = 0;
     write_edges();
     all_met();

@@ -5,6 +5,7 @@ use files::input::Found;
 use files::messages::messages_of;
 use files::trace::save;
 use instruction::QuadSamples;
+use instruction::Refusal;
 use instruction::WordAddress;
 use json::file;
 use json::state as by_name;
@@ -41,10 +42,10 @@ fn say_accepted(n: usize, wave: QuadSamples) {
     say(b" quad-samples of waveform memory\n");
 }
 
-fn say_refused(words: &[u64], number: u64, place: WordAddress, listed: bool) {
+fn say_refused(words: &[u64], refusal: Refusal, place: WordAddress, listed: bool) {
     say(b"refused: ");
-    say_number(number);
-    say_place(words, place, listed);
+    say_number(refusal.number);
+    say_place(words, refusal, place, listed);
 }
 
 pub fn check(words: &[u64], wave: QuadSamples, listed: bool) {
@@ -56,24 +57,29 @@ pub fn check(words: &[u64], wave: QuadSamples, listed: bool) {
         told::ends(told::ACCEPTED, 0);
         return;
     }
-    say_refused(words, number, verdict.place, listed);
+    say_refused(words, verdict.refusal, verdict.place, listed);
     told::ends(told::REFUSED, number);
 }
 
+// Input, or a word; the numbers that tell a bit stand above all others.
+fn is_refused(end: Refusal) -> bool {
+    (end.number < Sequence::PAST_THE_END) | end.tells_bit()
+}
+
 // Refused, a fault, or an end that is none.
-fn say_end(number: u64) {
-    if number < Sequence::PAST_THE_END {
+fn say_end(end: Refusal) {
+    if is_refused(end) {
         say(b"refused: ");
-    } else if number < Answer::BUDGET_SPENT {
+    } else if end.number < Answer::BUDGET_SPENT {
         say(b"faulted: ");
     } else {
         say(b"ended: ");
     }
-    say_number(number);
+    say_number(end.number);
 }
 
-fn status_of(number: u64) -> u64 {
-    if number < Answer::BUDGET_SPENT {
+fn status_of(end: Refusal) -> u64 {
+    if is_refused(end) | (end.number < Answer::BUDGET_SPENT) {
         told::REFUSED
     } else {
         told::ACCEPTED
@@ -81,17 +87,17 @@ fn status_of(number: u64) -> u64 {
 }
 
 fn say_run(words: &[u64], trace: &[u64], answer: Answer, listed: bool) {
-    say_end(answer.end.number);
-    say_place(words, answer.state.core.address, listed);
+    say_end(answer.end);
+    say_place(words, answer.end, answer.state.core.address, listed);
     let state = answer.state;
     say_state(state);
     say_trace(trace);
 }
 
 fn say_run_by_name(words: &[u64], trace: &[u64], answer: Answer, asked: Asked, listed: bool) {
-    let end = answer.end.number;
-    file::begin(asked.file, status_of(end));
-    file::say_member(b"end", end);
+    file::begin(asked.file, status_of(answer.end));
+    file::say_member(b"end", answer.end.number);
+    file::say_member(b"bit", answer.end.bit);
     if listed {
         file::say_member(b"line", line_of(answer.state.core.address.0));
     }
@@ -106,18 +112,18 @@ fn say_run_by_name(words: &[u64], trace: &[u64], answer: Answer, asked: Asked, l
 
 // What a run is told that has come to its end. The trace goes to its file first, so that there is no answer without it.
 fn tell(words: &[u64], trace: &[u64], answer: Answer, asked: Asked, listed: bool) {
-    let end = answer.end.number;
+    let status = status_of(answer.end);
     if asked.trace != 0 && !save(asked.trace, trace) {
         told::ends(told::NO_ANSWER, 0);
         return;
     }
     if asked.json {
         say_run_by_name(words, trace, answer, asked, listed);
-        told::ends(status_of(end), 0);
+        told::ends(status, 0);
         return;
     }
     say_run(words, trace, answer, listed);
-    told::ends(status_of(end), end);
+    told::ends(status, answer.end.number);
 }
 
 fn rehearse(words: &[u64], messages: &[u8], trace: &mut [u64], asked: Asked, listed: bool) {

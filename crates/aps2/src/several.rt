@@ -8,6 +8,7 @@ use files::input::words_of;
 use instruction::QuadSamples;
 use json::file;
 use report::words::line_of;
+use report::words::say_bit;
 use request::asked;
 use request::asked::Asked;
 use sequence::Sequence;
@@ -105,6 +106,7 @@ fn say_verdict(n: u64, verdict: Verdict, listed: bool) {
     if n != 0 {
         say(b" at word ");
         say_number(verdict.place.0);
+        say_bit(verdict.refusal);
         say_line(verdict, listed);
     }
     say(b"\n");
@@ -121,6 +123,7 @@ fn line_in(verdict: Verdict) -> u64 {
 fn say_verdict_by_name(n: u64, wave: QuadSamples, verdict: Verdict, listed: bool) {
     file::say_member(b"number", verdict.refusal.number);
     file::say_member(b"place", verdict.place.0);
+    file::say_member(b"bit", verdict.refusal.bit);
     if listed {
         file::say_member(b"line", line_in(verdict));
     }

@@ -21,8 +21,8 @@ items-are (suc n) k l more h =
     ap (λ (x : List ℕ). getD l k 0 ∷ x) (items-are n (suc k) l more (omega (arith, h)))
     ∙ ap (λ (x : List ℕ). x ++ more) (sym (drop-cons l k 0 (omega (arith, h))))
 
-regrouped : (f w t m r k : List ℕ) → ((((f ++ w) ++ t) ++ m) ++ r) ++ k ≡ f ++ (w ++ (t ++ (m ++ (r ++ k))))
-regrouped f w t m r k = simp append-assoc
+regrouped : (f w t m r k b : List ℕ) → (((((f ++ w) ++ t) ++ m) ++ r) ++ k) ++ b ≡ f ++ (w ++ (t ++ (m ++ (r ++ (k ++ b)))))
+regrouped f w t m r k b = simp append-assoc
 
 -- what fills a buffer from the front is all that it holds
 pub filled : (t xs : List ℕ) {u : List ℕ} {r : ℕ} → length xs ≡ length t → Put xs t 0 u r → u ≡ xs
@@ -37,10 +37,10 @@ pub record Long (s : State) : Type 0 where
   pub waits : length (s .waits) ≡ 6
   pub totals : length (s .totals) ≡ 6
 
--- ---- the six parts
+-- ---- the seven parts
 
 abbrev pub blank : List ℕ
-blank = replicate 54 0
+blank = replicate 55 0
 
 module _ (condition : ℕ) (a : Answer) where
   abbrev pub first : List ℕ
@@ -61,8 +61,11 @@ module _ (condition : ℕ) (a : Answer) where
   abbrev pub with-returns : List ℕ
   with-returns = with-middle ++ a .state .returns
 
+  abbrev pub with-counters : List ℕ
+  with-counters = with-returns ++ a .state .counters
+
   abbrev pub whole : List ℕ
-  whole = with-returns ++ a .state .counters
+  whole = with-counters ++ (a .end .bit ∷ [])
 
   module _ (l : Long (a .state)) where
     waits-length : length with-waits ≡ 11
@@ -77,8 +80,11 @@ module _ (condition : ℕ) (a : Answer) where
     returns-length : length with-returns ≡ 38
     returns-length = omega (arith, length-append with-middle (a .state .returns), middle-length, l .returns)
 
-    pub whole-length : length whole ≡ 54
-    whole-length = omega (arith, length-append with-returns (a .state .counters), returns-length, l .counters)
+    counters-length : length with-counters ≡ 54
+    counters-length = omega (arith, length-append with-returns (a .state .counters), returns-length, l .counters)
+
+    pub whole-length : length whole ≡ 55
+    whole-length = omega (arith, length-append with-counters (a .end .bit ∷ []), counters-length)
 
     pub waits-fit : Fits with-waits blank 0
     waits-fit = omega (arith, waits-length)
@@ -92,6 +98,9 @@ module _ (condition : ℕ) (a : Answer) where
     pub returns-fit : Fits with-returns blank 0
     returns-fit = omega (arith, returns-length)
 
+    pub counters-fit : Fits with-counters blank 0
+    counters-fit = omega (arith, counters-length)
+
     pub whole-fit : Fits whole blank 0
     whole-fit = omega (arith, whole-length)
 
@@ -100,13 +109,14 @@ module _ (condition : ℕ) (a : Answer) where
         items-are 6 0 (a .state .waits) _ (l .waits)
         ∙ ap (λ (x : List ℕ). a .state .waits ++ x) (items-are 6 0 (a .state .totals) more (l .totals))
 
-    stack : itemsThen 0 16 (a .state .returns) (itemsThen 0 16 (a .state .counters) []) ≡ a .state .returns ++ a .state .counters
-    stack =
+    stack : (more : List ℕ) → itemsThen 0 16 (a .state .returns) (itemsThen 0 16 (a .state .counters) more) ≡ a .state .returns ++ (a .state .counters ++ more)
+    stack more =
         items-are 16 0 (a .state .returns) _ (l .returns)
-        ∙ ap (λ (x : List ℕ). a .state .returns ++ x) (items-are 16 0 (a .state .counters) [] (l .counters) ∙ append-nil (a .state .counters))
+        ∙ ap (λ (x : List ℕ). a .state .returns ++ x) (items-are 16 0 (a .state .counters) more (l .counters))
 
     pub whole-flat : whole ≡ flatWith condition a
     whole-flat =
-        regrouped first (a .state .waits) (a .state .totals) middle (a .state .returns) (a .state .counters)
-        ∙ ap (λ (x : List ℕ). first ++ x) (sym (engines (middle ++ (a .state .returns ++ a .state .counters))))
-        ∙ ap (λ (x : List ℕ). first ++ itemsThen 0 6 (a .state .waits) (itemsThen 0 6 (a .state .totals) (middle ++ x))) (sym stack)
+        let last : List ℕ = a .end .bit ∷ [] in
+        regrouped first (a .state .waits) (a .state .totals) middle (a .state .returns) (a .state .counters) last
+        ∙ ap (λ (x : List ℕ). first ++ x) (sym (engines (middle ++ (a .state .returns ++ (a .state .counters ++ last)))))
+        ∙ ap (λ (x : List ℕ). first ++ itemsThen 0 6 (a .state .waits) (itemsThen 0 6 (a .state .totals) (middle ++ x))) (sym (stack last))

@@ -14,8 +14,9 @@ use Rattle.listing_reader.specs.declared.ReadBack.{ReadBack}
 use Rattle.listing_reader.proofs.Unique.{one-answer-read-listing}
 use Rattle.aps2_c.specs.Answer.{Ran, Checked, ListingRead}
 
-pub one-answer-aps2-read : (reading : Reading) {r r′ : ℕ} {fields fields′ : List ℕ} → Read reading r fields → Read reading r′ fields′ → (r ≡ r′) × (fields ≡ fields′)
-one-answer-aps2-read reading p q = (p .number ∙ sym (q .number), p .fields ∙ sym (q .fields))
+pub one-answer-aps2-read : (reading : Reading) {r r′ : ℕ} {fields fields′ bit bit′ : List ℕ} → Read reading r fields bit → Read reading r′ fields′ bit′
+    → (r ≡ r′) × (fields ≡ fields′) × (bit ≡ bit′)
+one-answer-aps2-read reading p q = (p .number ∙ sym (q .number), p .fields ∙ sym (q .fields), p .bit ∙ sym (q .bit))
 
 pub one-answer-aps2-write : (written : Written) {r r′ : ℕ} {word word′ : List ℕ} → Wrote written r word → Wrote written r′ word′ → (r ≡ r′) × (word ≡ word′)
 one-answer-aps2-write written p q = (p .number ∙ sym (q .number), p .word ∙ sym (q .word))
@@ -29,7 +30,7 @@ pub one-answer-aps2-check : (wave : ℕ) (words before : List ℕ) {r r′ : ℕ
 one-answer-aps2-check wave words before p q =
     let o = one-answer-check wave words before (p .verdict) (q .verdict) in (
       ap (λ (v : Verdict). v .refusal .number) (o .0),
-      p .place ∙ ap (λ (v : Verdict). v .place .0 ∷ []) (o .0) ∙ sym (q .place),
+      p .place ∙ ap (λ (v : Verdict). v .place .0 ∷ v .refusal .bit ∷ []) (o .0) ∙ sym (q .place),
       o .1,
     )
 

@@ -1,10 +1,9 @@
--- What C gets of a run, in 54 numbers, of a check, and of a listing that is read back. 0 end, 1 address, 2 steps, 3 messages used, 4 trace length, 5 to 10 wait counts,
--- 11 to 16 totals, 17 repeat counter, 18 register, 19 condition (0 none, 1 false, 2 true), 20 held, 21 depth, 22 to 37 stack addresses, 38 to 53 stack counters.
+-- What C gets of a run, in 55 numbers, of a check, and of a listing that is read back. 0 end, 1 address, 2 steps, 3 messages used, 4 trace length, 5 to 10 wait counts,
+-- 11 to 16 totals, 17 repeat counter, 18 register, 19 condition (0 none, 1 false, 2 true), 20 held, 21 depth, 22 to 37 stack addresses, 38 to 53 stack counters, 54 bit.
 use mathlib.Core.Path.{_≡_}
 use mathlib.Core.List.{List, [], _∷_}
 use Prim.Native.Nat.{ℕ, zero, suc}
 use lib.ListN.{getD}
-use Rattle.instruction.specs.Form.{numbered}
 use Rattle.sequence.specs.Bounds.{stackDepth}
 use Rattle.dispatch.specs.Engines.{engineCount}
 use Rattle.jumps.specs.State.{Did}
@@ -12,7 +11,8 @@ use Rattle.jumps.specs.declared.Condition.{Condition}
 use Rattle.jumps.specs.declared.Condition.the-variants.{Absent, Fails, Holds}
 use Rattle.rehearsal.specs.Run.{Rehearsed}
 use Rattle.rehearsal.specs.declared.Answer.{Answer}
-use Rattle.verdict.specs.Check.{verdict, CheckIs}
+use Rattle.verdict.specs.Check.{CheckIs}
+use Rattle.verdict.specs.Flow.{verdict}
 use Rattle.listing_reader.specs.ReadBack.{ReadsBack}
 
 abbrev pub conditionOf : Condition → ℕ
@@ -31,7 +31,7 @@ flatWith condition a =
     a .end .number ∷ c .address .0 ∷ c .steps ∷ c .used ∷ c .sent
     ∷ itemsThen 0 engineCount (a .state .waits) (itemsThen 0 engineCount (a .state .totals)
     (c .counter ∷ c .register ∷ condition ∷ c .held ∷ c .depth
-    ∷ itemsThen 0 stackDepth (a .state .returns) (itemsThen 0 stackDepth (a .state .counters) [])))
+    ∷ itemsThen 0 stackDepth (a .state .returns) (itemsThen 0 stackDepth (a .state .counters) (a .end .bit ∷ []))))
 
 abbrev pub flatOf : Answer → List ℕ
 flatOf a = flatWith (conditionOf (a .state .core .condition)) a
@@ -45,11 +45,12 @@ pub record Ran (d : Did) (before after given : List ℕ) (r : ℕ) : Type 0 wher
   pub answer : given ≡ flatOf (answerFrom d)
   pub trace : Rehearsed d before after (answerFrom d)
 
--- what `aps2_check` answers, and what it leaves in the marks and in the place
+-- what `aps2_check` answers, and what it leaves in the marks and in the place: the bit stands behind it
 pub record Checked (wave : ℕ) (words before after given : List ℕ) (r : ℕ) : Type 0 where
   pub at : ℕ
-  pub place : given ≡ at ∷ []
-  pub verdict : CheckIs wave words before (verdict (numbered r) at) after
+  pub bit : ℕ
+  pub place : given ≡ at ∷ bit ∷ []
+  pub verdict : CheckIs wave words before (verdict (record { number = r; bit = bit }) at) after
 
 -- what `aps2_read_listing` answers, and what it leaves in the words and tells: line, and how many words
 pub record ListingRead (text before after given : List ℕ) (r : ℕ) : Type 0 where

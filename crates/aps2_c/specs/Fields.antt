@@ -12,7 +12,7 @@ use Rattle.instruction.specs.Form.{filled}
 use Rattle.instruction.specs.declared.Instruction.{Instruction}
 use Rattle.instruction.specs.declared.Body.{Body}
 use Rattle.instruction.specs.declared.Body.the-variants.{Wait, Sync, Noop}
-use Rattle.reader.specs.Reading.{numberOf}
+use Rattle.reader.specs.Reading.{refusalOf, numberOf}
 use Rattle.reader.specs.declared.Reading.{Reading}
 use Rattle.reader.specs.declared.Reading.the-variants.{Accepted, Refused}
 use Rattle.writer.specs.Writing.{notWritten, writtenOf}
@@ -44,10 +44,11 @@ abbrev pub told : Reading → List ℕ
 told (Accepted i) = fieldsOf i
 told (Refused r) = paddedTo fieldCount []
 
--- what `aps2_read` answers
-pub record Read (reading : Reading) (r : ℕ) (fs : List ℕ) : Type 0 where
+-- what `aps2_read` answers, and what it leaves in the fields and in the bit
+pub record Read (reading : Reading) (r : ℕ) (fs given : List ℕ) : Type 0 where
   pub number : r ≡ numberOf reading
   pub fields : fs ≡ told reading
+  pub bit : given ≡ refusalOf reading .bit ∷ []
 
 -- ---- writing
 

@@ -36,8 +36,8 @@ pub struct Lent;
 impl Lent {
     pub const FIELDS: usize = 8;
 
-    // Ten numbers of the core and the end, two counts for each engine, and the two halves of each entry of the stack.
-    pub const ANSWER: usize = 10 + 2 * Engines::COUNT + 2 * (Sequence::STACK as usize);
+    // Eleven numbers of the core and the end, two counts for each engine, and the two halves of each entry of the stack.
+    pub const ANSWER: usize = 11 + 2 * Engines::COUNT + 2 * (Sequence::STACK as usize);
 }
 
 fn fields_of(i: Instruction) -> [u64; Lent::FIELDS]
@@ -74,9 +74,10 @@ fn fields_of(i: Instruction) -> [u64; Lent::FIELDS]
 }
 
 #[no_mangle]
-pub extern "C" fn aps2_read(word: u64, fields: &mut [u64; Lent::FIELDS]) -> u64
-    ensures { λ r. ⌜ Read (readingOf word) r (now (fields .exit)) ⌝ }
+pub extern "C" fn aps2_read(word: u64, fields: &mut [u64; Lent::FIELDS], bit: &mut [u64; 1]) -> u64
+    ensures { λ r. ⌜ Read (readingOf word) r (now (fields .exit)) (now (bit .exit)) ⌝ }
 {
+    *bit = [0];
     let reading = read(word);
     match reading {
         Reading::Accepted(i) => {
@@ -85,6 +86,7 @@ pub extern "C" fn aps2_read(word: u64, fields: &mut [u64; Lent::FIELDS]) -> u64
         }
         Reading::Refused(r) => {
             *fields = [0; Lent::FIELDS];
+            *bit = [r.bit];
             r.number
         }
     }
@@ -203,13 +205,15 @@ fn flat(condition: u64, a: Answer) -> [u64; Lent::ANSWER]
     let counters = state.counters;
     let first = [a.end.number, c.address.0, c.steps, c.used, c.sent];
     let middle = [c.counter, c.register, condition, c.held, c.depth];
+    let last = [a.end.bit];
     let mut out = [0u64; Lent::ANSWER];
     let mut at = lay(&mut out, 0, &first);
     at = lay(&mut out, at, &waits);
     at = lay(&mut out, at, &totals);
     at = lay(&mut out, at, &middle);
     at = lay(&mut out, at, &returns);
-    lay(&mut out, at, &counters);
+    at = lay(&mut out, at, &counters);
+    lay(&mut out, at, &last);
     out
 }
 
@@ -218,12 +222,12 @@ pub extern "C" fn aps2_check(
     words: &[u64],
     wave: u64,
     marks: &mut [u64],
-    place: &mut [u64; 1],
+    place: &mut [u64; 2],
 ) -> u64
     ensures { λ r. ⌜ Checked wave (now (words .entry)) (now (marks .entry)) (now (marks .exit)) (now (place .exit)) r ⌝ }
 {
     let v = check(words, QuadSamples(wave), marks);
-    *place = [v.place.0];
+    *place = [v.place.0, v.refusal.bit];
     v.refusal.number
 }
 

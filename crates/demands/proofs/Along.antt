@@ -85,7 +85,7 @@ stacks-flow s (pushes a k) p = (pushed (s .core .depth) (s .returns) a (p .0), p
 stacks-flow s pops p = (popped (s .core .depth) (s .returns) (p .0), popped (s .core .depth) (s .counters) (p .1))
 
 stacks-step : (e : Fixed) (s : State) (d : Did) → Outcome e s d → StacksIn s → StacksIn (d .state)
-stacks-step e s d (stops r h) p = p
+stacks-step e s d (stops r h _) p = p
 stacks-step e s d (flows c rs cs f) p = stacks-flow s (f .stack) p
 stacks-step e s d (holds g) p = p
 stacks-step e s d (sends g) p = p

@@ -354,7 +354,7 @@ never e budget marks _ v (flow i all _ f) z l =
     subst (λ (d : Did). NoFault (d .end .number)) (sym (rehearse-runs budget e (refused-none (length (e .words)) (e .setting .wave .0) budget (input-lengths-good (length (e .words)) (e .setting .wave .0) (length marks) i) l)))
     (run-fine e (input-good (length (e .words)) (e .setting .wave .0) (length marks) i .0) all (no-fault f z) budget fresh (begins e (input-good (length (e .words)) (e .setting .wave .0) (length marks) i .0) all (no-fault f z)))
   where
-    no-fault : {number place : ℕ} → FlowIs stackDepth (e .words) number place → number ≡ 0 → (k a : ℕ) → Fault stackDepth (e .words) k a → ⊥
+    no-fault : {v : Verdict} → FlowIs stackDepth (e .words) v → v .refusal .number ≡ 0 → (k a : ℕ) → Fault stackDepth (e .words) k a → ⊥
     no-fault (sound n) z = n
     no-fault (faulty {number = k} {a = a} g _) z = absurd (fault-number stackDepth (e .words) k a g z)
 

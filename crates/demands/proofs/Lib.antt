@@ -1,6 +1,8 @@
 pub mod Fields
 pub mod Word
+pub mod Bit
 pub mod Steps
+pub mod Told
 pub mod Runs
 pub mod Along
 pub mod Trace

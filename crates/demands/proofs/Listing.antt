@@ -1,15 +1,15 @@
 -- A listing that is read back, proved: `listed-read-back`, `read-back-listed`, `refused-untouched`. Line by line, from the two ways of a word
 -- (`read-write`, `write-read`), of a line's fields, and of a text's lines.
 -- Assumes nothing.
-use Prim.Native.Nat.{ℕ, zero, suc, _+_, _^_, _≤_, _<_}
+use Prim.Native.Nat.{ℕ, suc, _+_, _^_, _≤_, _<_}
 use mathlib.Core.Path.{_≡_, refl, sym, ap, ap₂, subst, _∙_}
 use mathlib.Core.Bool.{Bool, true, false, not, _||_, _&&_}
 use mathlib.Core.List.{List, [], _∷_, _++_, map, append-assoc}
 use native.Mathlib.Omega.{arith}
 use native.Mathlib.Nat.{zero-add}
-use borrow.Author.Tests.{eq-eqb, ne-eqb, eqb-true, le-leb, leb-true, lt-leb, lt-ltb, ltb-true, not-false}
-use lib.Dec.{eqb, leb, ltb}
-use lib.ListN.{length, getD, take, drop, take-append-drop}
+use borrow.Author.Tests.{eq-eqb, ne-eqb, eqb-true, leb-true, ltb-true}
+use lib.Dec.{eqb, leb}
+use lib.ListN.{length, getD, take, drop, take-append-drop, length-map}
 use lib.Seq.{take-append-seam, drop-append-seam}
 use Rattle.instruction.specs.Bits.{pick}
 use Rattle.instruction.specs.Table.{bodyOf}
@@ -23,24 +23,24 @@ use Rattle.reader.specs.declared.Reading.the-variants.{Accepted}
 use Rattle.writer.specs.Writing.{askedOf, writtenOf, notWritten}
 use Rattle.writer.specs.declared.Written.{Written}
 use Rattle.writer.proofs.Laws.{asked-wide}
-use Rattle.text.specs.Cut.{tab, lineFeed, cut, sameText, Row, rowsOf, rowsIn, fieldsIn}
-use Rattle.text.specs.Line.{Entry, name, number, letters, decimal, entryText, restText, lineText, Line, textOf}
+use Rattle.text.specs.Cut.{tab, lineFeed, cut, sameText, Row, rowsOf, rowsIn}
+use Rattle.text.specs.Line.{number, letters, decimal, entryText, lineText, Line, textOf}
 use Rattle.text.specs.Number.{value, numbers, isNumber}
 use Rattle.text.proofs.Alike.{same-text, same-self}
-use Rattle.text.proofs.Below.{allBelow, all-below}
+use Rattle.text.proofs.Below.{all-below}
 use Rattle.text.proofs.Cuts.{joined, joined-cut}
 use Rattle.text.proofs.Decimals.{decimal-value}
-use Rattle.text.proofs.Back.{number-back, number-text, fieldsOf, bare, cleanName, clean, allClean, line-joined, fields-back, line-back}
+use Rattle.text.proofs.Back.{number-back, number-text, bare, cleanName, allClean, line-joined, fields-back, line-back}
 use Rattle.names.specs.Names.{nameOf, nameCount, nameAt, rowNamed}
 use Rattle.names.proofs.Rows.{row-found, named-has}
-use Rattle.listing.specs.Listing.{entriesOf, entriesIn, lineOf, wordLines, headerText, listed}
+use Rattle.listing.specs.Listing.{entriesOf, entriesIn, wordLines, headerText, listed}
 use Rattle.listing.proofs.Lines.{listing-lines}
-use Rattle.listing_reader.specs.ReadBack.{isKnown, instructionOf, wishIn, allNumbers, hasFields, isShaped, fieldsRead, lineRead, lineNumber, wordIn, toldOf, isHeaded, bodyRows, readBack, wordsIn, ReadsBack, fieldCount, refusedAt}
+use Rattle.listing_reader.specs.ReadBack.{isKnown, instructionOf, wishIn, allNumbers, hasFields, fieldsRead, lineRead, lineNumber, wordIn, toldOf, isHeaded, bodyRows, readBack, wordsIn, fieldCount, refusedAt}
 use Rattle.listing_reader.specs.declared.ReadBack.{ReadBack}
 use Rattle.listing_reader.proofs.Fields.{has-fields, fields-known, known-written}
 use Rattle.listing_reader.proofs.Lines.{number-none, good-read, good-ended, told-next, told-none, told-good}
 use Rattle.demands.specs.Word.{zeroed}
-use Rattle.demands.specs.Listing.{ListingIsListed, Passes, AllPass, ListedReadBack, ReadBackListed, RefusedUntouched}
+use Rattle.demands.specs.Listing.{ListingIsListed, AllPass, ListedReadBack, ReadBackListed, RefusedUntouched}
 use Rattle.demands.proofs.Word.{read-write, write-read}
 use Rattle.demands.proofs.Shown.{shownValues, entries-shown, texts-shown, values-shown, rowOf, Shows, shows, Small, no-more, one-more, all-small}
 use Rattle.text.proofs.Bools.{both, never}
@@ -67,20 +67,8 @@ decimals-back (n ∷ ns) e = by (isNumber n) refl e (decimals-back ns)
     by true f g ih = ap₂ (λ (x : List ℕ) (l : List (List ℕ)). x ∷ l) (number-text n f) (ih g)
     by false f g ih = never (sym g)
 
-decimals-length : (vs : List ℕ) → length (map decimal vs) ≡ length vs
-decimals-length [] = refl
-decimals-length (v ∷ vs) = ap suc (decimals-length vs)
-
-values-length : (ns : List (List ℕ)) → length (map value ns) ≡ length ns
-values-length [] = refl
-values-length (n ∷ ns) = ap suc (values-length ns)
-
 entries-length : (i : Instruction) → length (entriesOf i) ≡ suc (length (shownValues i))
-entries-length i = ap length (entries-shown i) ∙ ap suc (count (shownValues i))
-  where
-    count : (vs : List ℕ) → length (map number vs) ≡ length vs
-    count [] = refl
-    count (v ∷ vs) = ap suc (count vs)
+entries-length i = ap length (entries-shown i) ∙ ap suc (length-map (shownValues i) number)
 
 -- ---- a word's line, read back
 
@@ -133,7 +121,7 @@ module _ (a : ℕ) (h : a < numbers) (i : Instruction) (t : fitsOf i ≡ true) w
   has : hasFields (rowOf (i .body)) (map decimal vs) ≡ true
   has =
       ap (λ (x : Instruction). eqb (suc (length (map decimal vs))) (length (entriesOf x)) && allNumbers (map decimal vs)) again
-      ∙ rw (all-numbers (all-small i t), eq-eqb (suc (length (map decimal vs))) (length (entriesOf i)) (ap suc (decimals-length vs) ∙ sym (entries-length i)))
+      ∙ rw (all-numbers (all-small i t), eq-eqb (suc (length (map decimal vs))) (length (entriesOf i)) (ap suc (length-map vs decimal) ∙ sym (entries-length i)))
 
   pub line-written : lineRead a row ≡ writtenOf i
   unfolding lineRead
@@ -203,10 +191,6 @@ headed rest = ap (λ (t : List ℕ). sameText t headerText) (take-append-seam he
 body-of : (rest : List ℕ) → bodyRows (headerText ++ rest) ≡ rowsIn rest
 body-of rest = ap rowsIn (drop-append-seam headerText rest)
 
-zeroed-length : (ws : List ℕ) → length (map zeroed ws) ≡ length ws
-zeroed-length [] = refl
-zeroed-length (w ∷ ws) = ap suc (zeroed-length ws)
-
 pub listed-read-back : ListedReadBack
 unfolding readBack
 listed-read-back words before after r p h l c =
@@ -224,7 +208,7 @@ listed-read-back words before after r p h l c =
       c .words
           ∙ ap (λ (t : ReadBack). pick (eqb (t .number) 0) (wordsIn (listed words) ++ drop (length (wordsIn (listed words))) before) before) answer
           ∙ ap (λ (l : List ℕ). l ++ drop (length l) before) ws
-          ∙ ap (λ (n : ℕ). map zeroed words ++ drop n before) (zeroed-length words),
+          ∙ ap (λ (n : ℕ). map zeroed words ++ drop n before) (length-map words zeroed),
     )
 
 -- ---- an accepted line is the line of its word
@@ -277,7 +261,7 @@ good-texts a (f ∷ n ∷ ns) g =
     let vs = map value ns in
     let i = instructionOf row vs in
     let c = both (eqb (length ns) (fieldCount row)) (allNumbers ns) (sym (has-fields row ns (g .known)) ∙ g .shaped) in
-    let shown : shownValues i ≡ vs = values-shown row vs (g .known) (values-length ns ∙ eqb-true (length ns) (fieldCount row) (c .0)) in
+    let shown : shownValues i ≡ vs = values-shown row vs (g .known) (length-map ns value ∙ eqb-true (length ns) (fieldCount row) (c .0)) in
     let first : f ≡ decimal a = sym (number-text f (g .address)) ∙ ap decimal (g .counted) in
     let called : n ≡ letters (nameOf (i .body)) = named-has n (g .known) ∙ sym (row-name row (drop 2 vs) (g .known)) in
     let numbered : ns ≡ map decimal (shownValues i) = sym (ap (map decimal) shown ∙ decimals-back ns (c .1)) in
@@ -316,10 +300,6 @@ count-lines room a (row ∷ rows) e =
     let g = told-good room a row rows e in
     ap (λ (t : ReadBack). t .count) (told-next room a row rows (g .0)) ∙ count-lines room (a + 1) rows (g .1) ∙ omega arith
 
-words-length : (rows : List Row) → length (map wordIn rows) ≡ length rows
-words-length [] = refl
-words-length (row ∷ rows) = ap suc (words-length rows)
-
 pub read-back-listed : ReadBackListed
 unfolding readBack
 read-back-listed text before after r c z = by (isHeaded text) refl
@@ -333,7 +313,7 @@ read-back-listed text before after r c z = by (isHeaded text) refl
         let rest = drop (length headerText) text in
         let front : take (length headerText) text ≡ headerText = same-text (take (length headerText) text) headerText e in
         let size : r .count ≡ length (map wordIn rows) =
-        ap (λ (x : ReadBack). x .count) told ∙ count-lines (length before) 0 rows good ∙ zero-add (length rows) ∙ sym (words-length rows) in
+        ap (λ (x : ReadBack). x .count) told ∙ count-lines (length before) 0 rows good ∙ zero-add (length rows) ∙ sym (length-map rows wordIn) in
         let words : take (r .count) after ≡ map wordIn rows =
         ap₂ (λ (n : ℕ) (l : List ℕ). take n l)
         size

@@ -29,7 +29,7 @@ use Rattle.demands.proofs.Steps.{Outcome, stops, flows, holds, sends, o
 -- ---- the steps counted are the steps taken
 
 moved-steps : (e : Fixed) (s : State) (d : Did) → Outcome e s d → d .end .number ≡ 0 → d .state .core .steps ≡ s .core .steps + 1
-moved-steps e s d (stops r h) z = absurd (h z)
+moved-steps e s d (stops r h _) z = absurd (h z)
 moved-steps e s d (flows c rs cs f) z = f .steps
 moved-steps e s d (holds g) z = refl
 moved-steps e s d (sends g) z = refl
@@ -66,7 +66,7 @@ record Over (s : State) (d : Did) : Type 0 where
   totals : d .state .totals ≡ totalsOver (s .totals) (d .out)
 
 over-step : (e : Fixed) (s : State) (d : Did) → Outcome e s d → Over s d
-over-step e s d (stops r h) = record { waits = refl; totals = refl }
+over-step e s d (stops r h _) = record { waits = refl; totals = refl }
 over-step e s d (flows c rs cs f) = record { waits = refl; totals = refl }
 over-step e s d (holds g) = record { waits = refl; totals = refl }
 over-step e s d (sends g) = record { waits = refl; totals = refl }

@@ -1,23 +1,21 @@
 -- What the listing shows of an instruction, and the instruction from it: the two ways undo each other.
 -- Assumes nothing.
-use Prim.Native.Nat.{ℕ, zero, suc, _+_, _^_, _≤_, _<_}
+use Prim.Native.Nat.{ℕ, zero, suc, _<_}
 use mathlib.Core.Path.{_≡_, refl, sym, ap, _∙_}
 use mathlib.Core.Bool.{Bool, true, false, _&&_}
 use mathlib.Core.List.{List, [], _∷_, map}
 use native.Mathlib.Omega.{arith}
-use native.Mathlib.Decide.{ℕ-discrete}
 use borrow.Author.Tests.{eqb-true, leb-true}
 use lib.Dec.{eqb, leb, lit<}
 use lib.ListN.{length, getD, drop}
 use Rattle.instruction.specs.Bits.{pick, span, allFit}
-use Rattle.instruction.specs.Table.{engineSelect, writeFlag, payloadOf, codeOf, isNoop, valuesOf, bodyOf}
+use Rattle.instruction.specs.Table.{engineSelect, writeFlag, payloadOf, codeOf, isNoop, valuesOf}
 use Rattle.instruction.specs.Word.{bodyFits, fitsOf}
 use Rattle.instruction.specs.declared.Field.{Field}
 use Rattle.instruction.specs.declared.Instruction.{Instruction}
 use Rattle.instruction.specs.declared.Body.{Body}
 use Rattle.instruction.specs.declared.Body.the-variants.{Waveform, Marker, Wait, LoadRepeat, Repeat, Cmp, Goto, Call, Return, Sync, Modulator, LoadCmp, Prefetch, Noop}
-use Rattle.instruction.proofs.Laws.{fits-noop, fits-other}
-use Rattle.text.specs.Line.{Entry, name, number, letters, decimal, entryText}
+use Rattle.text.specs.Line.{name, number, letters, decimal, entryText}
 use Rattle.text.specs.Number.{numbers}
 use Rattle.names.specs.Names.{nameOf, nameCount, nameAt}
 use Rattle.listing.specs.Listing.{shownOf, entriesOf}

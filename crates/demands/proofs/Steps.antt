@@ -1,6 +1,6 @@
 -- One step has four outcomes: it stops with a number and alters nothing, it flows on with nothing held, it holds a word, or it sends a group.
 -- What is promised of single steps follows from that. Assumes nothing.
-use mathlib.Core.Path.{_≡_, refl, sym, ap, _∙_}
+use mathlib.Core.Path.{_≡_, refl, sym, ap, subst, _∙_}
 use mathlib.Core.Bool.{Bool, true, false, true≢false}
 use mathlib.Core.List.{List, []}
 use Prim.Native.Nat.{ℕ, _+_, _-_, _<_}
@@ -15,11 +15,11 @@ use Rattle.instruction.specs.declared.Refusal.{Refusal}
 use Rattle.instruction.specs.declared.Instruction.{Instruction}
 use Rattle.instruction.specs.declared.Body.{Body}
 use Rattle.instruction.specs.declared.Body.the-variants.{Waveform, Marker, Wait, LoadRepeat, Repeat, Cmp, Goto, Call, Return, Sync, Modulator, LoadCmp, Prefetch, Noop}
-use Rattle.reader.specs.Reading.{formIn, judged, readingOf, numberOf}
+use Rattle.reader.specs.Reading.{formIn, refusedWith, judged, readingOf, refusalOf, numberOf}
 use Rattle.reader.specs.declared.Reading.{Reading}
 use Rattle.reader.specs.declared.Reading.the-variants.{Accepted, Refused}
 use Rattle.reader.proofs.Laws.{reads-instruction}
-use Rattle.sequence.specs.Placing.{placingOf}
+use Rattle.sequence.specs.Placing.{onEngine, outOfWave, outOfWords, placingOf}
 use Rattle.dispatch.proofs.Counts.{picks}
 use Rattle.instruction.specs.Form.{numbered}
 use Rattle.jumps.specs.State.{Fixed, Did, stateOf, withCore, refusedBy, stop, moves}
@@ -28,27 +28,29 @@ use Rattle.jumps.specs.declared.Core.{Core}
 use Rattle.jumps.specs.declared.State.{State}
 use Rattle.machine.specs.Step.{groupOf, sent, sendOf, engineWordOf, anyAbove, syncOf, actOf, breaksGroup, executeOf, withReading, stepOf}
 use Rattle.demands.specs.Run.{isDispatched, Reads, StopsStill}
+use Rattle.demands.specs.Bit.{SaysBit}
+use Rattle.demands.proofs.Bit.{Quiet, says-none, which-bit}
 
 -- ---- a refused word has a number
 
-refused-number : (n : ℕ) (i : Instruction) (r : Refusal) (b : Bool) → eqb n 0 ≡ b → pick b (Accepted i) (Refused (record { number = n })) ≡ Refused r → r .number ≡ 0 → ⊥
-refused-number n i r true e q z = let x : _≡_ {A = ℕ} 0 1 = cc in omega arith
-refused-number n i r false e q z = eqb-false n 0 e (same q ∙ z)
+refused-number : (q : Refusal) (i : Instruction) (r : Refusal) (b : Bool) → eqb (q .number) 0 ≡ b → pick b (Accepted i) (Refused q) ≡ Refused r → r .number ≡ 0 → ⊥
+refused-number q i r true e p z = let x : _≡_ {A = ℕ} 0 1 = cc in omega arith
+refused-number q i r false e p z = eqb-false (q .number) 0 e (same p ∙ z)
   where
-    same : Refused (record { number = n }) ≡ Refused r → n ≡ r .number
+    same : Refused q ≡ Refused r → q .number ≡ r .number
     same p = ap number p
       where
         number : Reading → ℕ
-        number (Accepted j) = n
+        number (Accepted j) = q .number
         number (Refused t) = t .number
 
 reading-number : (w : ℕ) (r : Refusal) → readingOf w ≡ Refused r → r .number ≡ 0 → ⊥
 unfolding readingOf
 reading-number w r q z = by (eqb w noopWord) q
   where
-    by : (b : Bool) → pick b (Accepted noop) (judged (formIn w) (spelledBy w)) ≡ Refused r → ⊥
+    by : (b : Bool) → pick b (Accepted noop) (judged (refusedWith w (formIn w)) (spelledBy w)) ≡ Refused r → ⊥
     by true p = let x : _≡_ {A = ℕ} 0 1 = cc in omega arith
-    by false p = refused-number (formIn w) (spelledBy w) r (eqb (formIn w) 0) refl p z
+    by false p = refused-number (refusedWith w (formIn w)) (spelledBy w) r (eqb (formIn w) 0) refl p z
 
 -- ---- a word that goes out
 
@@ -66,6 +68,12 @@ reads-of w i r q = by (eqb w noopWord) (reads-instruction w (ap numberOf r))
     by false p = record { form = sym p; kind = ap dispatches (p ∙ r) ∙ q }
 
 -- ---- the four outcomes
+
+-- 20 and 21 tell no bit
+pub placing-quiet : (wave n : ℕ) (b : Body) → Quiet (placingOf wave n b)
+unfolding placingOf
+placing-quiet wave n b =
+    picks Quiet (onEngine (outOfWave wave) (λ f. false) (λ f. false) false b) (λ _. refl) (λ _. picks Quiet (outOfWords n b) (λ _. refl) (λ _. refl))
 
 -- depth, return addresses and counters after a step of flow: they stay, a CALL pushed, or a RETURN popped
 pub data Stacked (s : State) : ℕ → List ℕ → List ℕ → Type 0 where
@@ -85,14 +93,14 @@ pub record Goes (e : Fixed) (s : State) : Type 0 where
   pub reads : Reads (getD (e .words) (s .core .address .0) 0)
 
 pub data Outcome (e : Fixed) (s : State) : Did → Type 0 where
-  stops : (r : Refusal) → (r .number ≡ 0 → ⊥) → Outcome e s (refusedBy r s)
+  stops : (r : Refusal) → (r .number ≡ 0 → ⊥) → SaysBit (getD (e .words) (s .core .address .0) 0) r → Outcome e s (refusedBy r s)
   flows : (c : Core) (rs cs : List ℕ) → Flows s c rs cs → Outcome e s (moves (stateOf c rs cs (s .waits) (s .totals)))
   holds : Goes e s → Outcome e s (moves (withCore (holdOf (s .core)) s))
   sends : Goes e s → Outcome e s (record { end = numbered 0; state = sent e s; out = groupOf e (s .core) })
 
 module _ (e : Fixed) (s : State) where
-  stop-at : (n : ℕ) → (n ≡ 0 → ⊥) → Outcome e s (stop n s)
-  stop-at n h = stops (numbered n) h
+  stop-at : (n : ℕ) → (n ≡ 0 → ⊥) → Quiet n → Outcome e s (stop n s)
+  stop-at n h q = stops (numbered n) h (says-none _ n q)
 
   -- flow, where nothing is held
   module _ (free : s .core .held ≡ 0) where
@@ -103,19 +111,19 @@ module _ (e : Fixed) (s : State) where
     unfolding callOf
     call-outcome a =
         picks (Outcome e s) (acts (s .core .condition))
-        (λ _. picks (Outcome e s) (ltb (s .core .depth) 16) (λ _. moves-on _ _ _ refl refl (pushes _ _)) (λ _. stop-at 31 (λ z. omega (arith, z))))
+        (λ _. picks (Outcome e s) (ltb (s .core .depth) 16) (λ _. moves-on _ _ _ refl refl (pushes _ _)) (λ _. stop-at 31 (λ z. omega (arith, z)) refl))
         (λ _. moves-on _ _ _ refl refl stays)
 
     return-outcome : Outcome e s (returnOf s)
     unfolding returnOf
     return-outcome =
         picks (Outcome e s) (acts (s .core .condition))
-        (λ _. picks (Outcome e s) (ltb 0 (s .core .depth)) (λ _. moves-on _ _ _ refl refl pops) (λ _. stop-at 32 (λ z. omega (arith, z))))
+        (λ _. picks (Outcome e s) (ltb 0 (s .core .depth)) (λ _. moves-on _ _ _ refl refl pops) (λ _. stop-at 32 (λ z. omega (arith, z)) refl))
         (λ _. moves-on _ _ _ refl refl stays)
 
     message-outcome : (m : List ℕ) → Outcome e s (messageOf m s)
     unfolding messageOf
-    message-outcome m = picks (Outcome e s) (ltb (s .core .used) (length m)) (λ _. moves-on _ _ _ refl refl stays) (λ _. stop-at 42 (λ z. omega (arith, z)))
+    message-outcome m = picks (Outcome e s) (ltb (s .core .used) (length m)) (λ _. moves-on _ _ _ refl refl stays) (λ _. stop-at 42 (λ z. omega (arith, z)) refl)
 
     repeat-outcome : (a : ℕ) → Outcome e s (moves (withCore (repeatOf (s .core) a) s))
     repeat-outcome a =
@@ -130,11 +138,11 @@ module _ (e : Fixed) (s : State) where
   module _ (g : Goes e s) where
     send-outcome : Outcome e s (sendOf e s)
     unfolding sendOf
-    send-outcome = picks (Outcome e s) (leb (s .core .sent + (s .core .held + 1)) (e .room)) (λ _. sends g) (λ _. stop-at 43 (λ z. omega (arith, z)))
+    send-outcome = picks (Outcome e s) (leb (s .core .sent + (s .core .held + 1)) (e .room)) (λ _. sends g) (λ _. stop-at 43 (λ z. omega (arith, z)) refl)
 
     sync-outcome : Outcome e s (syncOf e s)
     unfolding syncOf
-    sync-outcome = picks (Outcome e s) (anyAbove (e .setting .triggers) (s .waits)) (λ _. stop-at 41 (λ z. omega (arith, z))) (λ _. send-outcome)
+    sync-outcome = picks (Outcome e s) (anyAbove (e .setting .triggers) (s .waits)) (λ _. stop-at 41 (λ z. omega (arith, z)) refl) (λ _. send-outcome)
 
     engine-outcome : (w : ℕ) → Outcome e s (engineWordOf e s w)
     unfolding engineWordOf
@@ -167,26 +175,28 @@ module _ (e : Fixed) (s : State) where
     execute-outcome i r =
         let n : ℕ = placingOf (e .setting .wave .0) (length (e .words)) (i .body) in
         picks (Outcome e s) (eqb n 0)
-        (λ _. picks (Outcome e s) (breaksGroup (s .core .held) (i .write) (i .body)) (λ _. stop-at 22 (λ z. omega (arith, z)))
+        (λ _. picks (Outcome e s) (breaksGroup (s .core .held) (i .write) (i .body)) (λ _. stop-at 22 (λ z. omega (arith, z)) refl)
         (λ t. act-outcome (i .write) (i .body) (λ q. record { inside = inside; reads = reads-of (getD (e .words) (s .core .address .0) 0) i r q }) t))
-        (λ t. stop-at n (eqb-false n 0 t))
+        (λ t. stop-at n (eqb-false n 0 t) (placing-quiet (e .setting .wave .0) (length (e .words)) (i .body)))
 
     reading-outcome : (q : Reading) → readingOf (getD (e .words) (s .core .address .0) 0) ≡ q → Outcome e s (withReading e s q)
     unfolding withReading
     reading-outcome (Accepted i) p = execute-outcome i p
-    reading-outcome (Refused r) p = stops r (reading-number (getD (e .words) (s .core .address .0) 0) r p)
+    reading-outcome (Refused r) p =
+        let w = getD (e .words) (s .core .address .0) 0 in
+        stops r (reading-number w r p) (subst (λ (q : Reading). SaysBit w (refusalOf q)) p (which-bit w))
 
   pub outcome : Outcome e s (stepOf e s)
   unfolding stepOf
   outcome =
       picks (Outcome e s) (ltb (s .core .address .0) (length (e .words)))
       (λ t. reading-outcome (ltb-true (s .core .address .0) (length (e .words)) t) (readingOf (getD (e .words) (s .core .address .0) 0)) refl)
-      (λ _. stop-at 30 (λ z. omega (arith, z)))
+      (λ _. stop-at 30 (λ z. omega (arith, z)) refl)
 
 -- ---- what follows
 
 stops-still-of : (e : Fixed) (s : State) (d : Did) → Outcome e s d → (d .end .number ≡ 0 → ⊥) → (d .state ≡ s) × (d .out ≡ [])
-stops-still-of e s d (stops r h) z = (refl, refl)
+stops-still-of e s d (stops r h _) z = (refl, refl)
 stops-still-of e s d (flows c rs cs f) z = absurd (z refl)
 stops-still-of e s d (holds g) z = absurd (z refl)
 stops-still-of e s d (sends g) z = absurd (z refl)

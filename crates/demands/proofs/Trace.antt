@@ -47,7 +47,7 @@ module _ (e : Fixed) (out : List ℕ) (s : State) (b : Good e s) (p : Read e out
   quiet = subst (Every Reads) (sym (append-nil out)) (p .sent)
 
   read-step : (d : Did) → Outcome e s d → Read e (out ++ d .out) (d .state .core)
-  read-step d (stops r h) = record { sent = quiet; held = p .held }
+  read-step d (stops r h _) = record { sent = quiet; held = p .held }
   read-step d (flows c rs cs f) = record { sent = quiet; held = subst (λ (h : ℕ). Every Reads (part (c .address .0 - h) h (e .words))) (sym (f .held)) tt }
   read-step d (holds g) = record { sent = quiet; held = subst (λ (a : ℕ). Every Reads (part a (s .core .held + 1) (e .words))) below (group-reads g) }
     where

@@ -1,7 +1,7 @@
 -- Demand 2, the word, proved: `read-write` and `write-read`. A word of named bits alone is the sum of its fields, and both trips follow field by field.
 -- Assumes nothing.
 use mathlib.Core.Path.{_≡_, refl, sym, ap, _∙_}
-use mathlib.Core.Bool.{Bool, true, false, not, _&&_, _||_}
+use mathlib.Core.Bool.{Bool, true, false, not, _&&_, _||_, true≢false}
 use mathlib.Core.List.{List, [], _∷_}
 use Prim.Native.Nat.{ℕ, zero, suc, _*_, _/_, _^_, _<_}
 use native.Mathlib.Decide.{ℕ-discrete, decLt}
@@ -12,7 +12,7 @@ use lib.Dec.{eqb, lit<}
 use lib.ListN.{getD, length, drop}
 use Rattle.instruction.specs.Bits.{pick, span, held, laid, heldIn, allFit}
 use Rattle.instruction.specs.Table.{opCode, engineSelect, writeFlag, wholePayload, engineOp, payloadOf, codeOf, noopWord, isIgnored, valuesOf, bodyOf}
-use Rattle.instruction.specs.Form.{formOf}
+use Rattle.instruction.specs.Form.{tellsBit, formOf}
 use Rattle.instruction.specs.Word.{codeIn, valuesIn, spelledBy, noop, wordOf, bodyFits, fitsOf}
 use Rattle.instruction.specs.declared.Field.{Field}
 use Rattle.instruction.specs.declared.Instruction.{Instruction}
@@ -20,11 +20,13 @@ use Rattle.instruction.specs.declared.Refusal.{Refusal}
 use Rattle.instruction.specs.declared.Body.{Body}
 use Rattle.instruction.specs.declared.Body.the-variants.{Waveform, Marker, Wait, LoadRepeat, Repeat, Cmp, Goto, Call, Return, Sync, Modulator, LoadCmp, Prefetch, Noop}
 use Rattle.instruction.proofs.Laws.{fits-noop, fits-other, word-noop, word-other}
-use Rattle.reader.specs.Reading.{someBelow, hasUnnamed, notItsOp, formIn, readingOf}
+use Rattle.reader.specs.Reading.{someBelow, notItsOp, formIn, highestStray, readingOf}
 use Rattle.reader.specs.declared.Reading.the-variants.{Accepted, Refused}
-use Rattle.reader.specs.Masks.{namedBits}
-use Rattle.reader.proofs.Masks.{none-below, no-stray, all-left}
-use Rattle.reader.proofs.Laws.{reads-noop, reads, refuses, form-10, form-11, form-12, form-rest}
+use Rattle.reader.specs.Masks.{namedBits, hasUnnamed}
+use Rattle.reader.proofs.Below.{none-below}
+use Rattle.reader.proofs.Masks.{no-stray, all-left}
+use Rattle.reader.proofs.Strays.{kind-tells}
+use Rattle.reader.proofs.Laws.{reads-noop, reads, refuses, form-10, form-unnamed, form-12, form-rest}
 use Rattle.writer.specs.declared.Written.{Written}
 use Rattle.writer.specs.Writing.{askedOf, writtenOf}
 use Rattle.writer.proofs.Laws.{asked-wide, asked-fitting, written-good}
@@ -264,7 +266,7 @@ passed w z = by (decLt (codeIn w) 13) (hasUnnamed w) refl (notItsOp w) refl
   where
     by : Dec (codeIn w < 13) → (u : Bool) → hasUnnamed w ≡ u → (o : Bool) → notItsOp w ≡ o → Passed w
     by (no h) u p o q = absurd (omega (arith, z, form-10 w (omega arith)))
-    by (yes h) true p o q = absurd (omega (arith, z, form-11 w h p))
+    by (yes h) true p o q = absurd (true≢false (sym (kind-tells (codeIn w) (highestStray w)) ∙ ap tellsBit (sym (form-unnamed w h p) ∙ z)))
     by (yes h) false p true q = absurd (omega (arith, z, form-12 w h p q))
     by (yes h) false p false q = record { low = h; named = p; own = q; form = sym (form-rest w h p q) ∙ z }
 

@@ -12,8 +12,8 @@ use lib.Dec.{ltb, eqb}
 use lib.ListN.{length}
 use Rattle.instruction.specs.Form.{numbered, formOf}
 use Rattle.instruction.specs.Word.{spelledBy}
-use Rattle.reader.specs.Reading.{someBelow, hasUnnamed, notItsOp, formIn, readingOf}
-use Rattle.reader.proofs.Masks.{none-below}
+use Rattle.reader.specs.Reading.{someBelow, hasKind, notItsOp, formIn, highestStray, readingOf}
+use Rattle.reader.proofs.Below.{none-below}
 use Rattle.sequence.specs.Bounds.{wordLimit, waveLimit, stackDepth, budgetLimit, lengthsRefused}
 use Rattle.sequence.specs.Placing.{placingOf}
 use Rattle.dispatch.proofs.Counts.{picks}
@@ -25,10 +25,10 @@ use Rattle.machine.specs.Step.{sendOf, engineWordOf, syncOf, actOf, executeOf, 
 use Rattle.rehearsal.specs.Run.{runOf, inputRefused, rehearse}
 use Rattle.rehearsal.proofs.Runs.{rehearse-refused, rehearse-runs}
 use Rattle.flow.specs.Walk.{Reached, start, compare, enter, passed, other, goto, past, full, empty}
-use Rattle.verdict.specs.Flow.{FlowIs, sound, faulty}
+use Rattle.verdict.specs.Flow.{verdict, FlowIs, sound, faulty}
 use Rattle.verdict.specs.Words.{isEngineWord, isHigh, closes, leftOpen, standsRefused, wordRefusal, Passes}
 use Rattle.verdict.specs.Check as check
-use Rattle.verdict.specs.Check.{verdict, WordsAre, CheckIs}
+use Rattle.verdict.specs.Check.{WordsAre, CheckIs}
 use Rattle.verdict.specs.declared.Verdict.{Verdict}
 use Rattle.verdict.proofs.Unique.{one-words, one-flow}
 use Rattle.verdict.proofs.Words.{input-none}
@@ -44,14 +44,12 @@ refusedBelow n wave words = someBelow n (λ a. not (eqb (wordRefusal wave words 
 pass : (n wave : ℕ) (words : List ℕ) → refusedBelow n wave words ≡ false → (a : ℕ) → a < n → Passes wave words a
 pass n wave words e a l = eqb-true _ 0 (not-false _ (none-below n (λ k. not (eqb (wordRefusal wave words k .number) 0)) e a l))
 
-by-flow : (wave : ℕ) (words : List ℕ) (number place : ℕ) → lengthsRefused (length words) wave ≡ 0 → refusedBelow (length words) wave words ≡ false → FlowIs stackDepth words number place
-    → (marks marks′ : List ℕ) (v : Verdict) → length words ≤ length marks → CheckIs wave words marks v marks′ → v ≡ verdict (numbered number) place
-by-flow wave words number place n p f marks _ _ l (check.input h) = absurd (h (input-none (length words) wave (length marks) n l))
-by-flow wave words number place n p f marks _ v l (check.word _ w h) =
+by-flow : (wave : ℕ) (words : List ℕ) (u : Verdict) → lengthsRefused (length words) wave ≡ 0 → refusedBelow (length words) wave words ≡ false → FlowIs stackDepth words u
+    → (marks marks′ : List ℕ) (v : Verdict) → length words ≤ length marks → CheckIs wave words marks v marks′ → v ≡ u
+by-flow wave words u n p f marks _ _ l (check.input h) = absurd (h (input-none (length words) wave (length marks) n l))
+by-flow wave words u n p f marks _ v l (check.word _ w h) =
     absurd (h (ap (λ (x : Verdict). x .refusal .number) (one-words wave words w (check.passed (pass (length words) wave words p)))))
-by-flow wave words number place n p f marks _ _ l (check.flow _ _ _ g) =
-    let o = one-flow stackDepth words g f in
-    λ i. verdict (numbered (o .0 i)) (o .1 i)
+by-flow wave words u n p f marks _ _ l (check.flow _ _ _ g) = one-flow stackDepth words g f
 
 by-word : (wave : ℕ) (words : List ℕ) (v : Verdict) → lengthsRefused (length words) wave ≡ 0 → WordsAre wave words v → (v .refusal .number ≡ 0 → ⊥)
     → (marks marks′ : List ℕ) (u : Verdict) → length words ≤ length marks → CheckIs wave words marks u marks′ → u ≡ v
@@ -61,15 +59,15 @@ by-word wave words v n w h marks _ _ l (check.flow _ all _ _) = absurd (h (ap (�
 
 -- ---- the flows
 
-p1 : FlowIs stackDepth fourWords 0 0
+p1 : FlowIs stackDepth fourWords (verdict (numbered 0) 0)
 unfolding spelledBy
 p1 = sound (no-fault stackDepth fourWords (at 0 0 false ∷ at 1 0 false ∷ at 2 0 false ∷ at 3 0 false ∷ []) refl refl)
 
-p6 : FlowIs stackDepth (0x8000000000000000 ∷ []) 32 0
+p6 : FlowIs stackDepth (0x8000000000000000 ∷ []) (verdict (numbered 32) 0)
 unfolding spelledBy
 p6 = faulty (empty start (omega arith) refl) (λ k a f. omega arith)
 
-p7 : FlowIs stackDepth (0xFFFFFFFFFFFFFFFF ∷ []) 30 1
+p7 : FlowIs stackDepth (0xFFFFFFFFFFFFFFFF ∷ []) (verdict (numbered 30) 1)
 unfolding spelledBy
 p7 = faulty (past (other start (omega arith) refl)) (no-lower stackDepth (0xFFFFFFFFFFFFFFFF ∷ []) (at 0 0 false ∷ at 1 0 false ∷ []) 1 refl refl)
 
@@ -79,15 +77,15 @@ unfolding spelledBy
 deeper zero l = start
 deeper (suc d) l = subst (λ (x : ℕ). Reached stackDepth (0x7000000000000000 ∷ []) 0 x false) (add-one d) (enter (deeper d (omega arith)) (omega arith) refl (omega arith))
 
-p8 : FlowIs stackDepth (0x7000000000000000 ∷ []) 31 0
+p8 : FlowIs stackDepth (0x7000000000000000 ∷ []) (verdict (numbered 31) 0)
 unfolding spelledBy
 p8 = faulty (full (deeper stackDepth (omega arith)) (omega arith) refl) (λ k a f. omega arith)
 
-p9 : FlowIs stackDepth (0x7000000000000002 ∷ 0x6000000000000001 ∷ 0x8000000000000000 ∷ []) 0 0
+p9 : FlowIs stackDepth (0x7000000000000002 ∷ 0x6000000000000001 ∷ 0x8000000000000000 ∷ []) (verdict (numbered 0) 0)
 unfolding spelledBy
 p9 = sound (no-fault stackDepth (0x7000000000000002 ∷ 0x6000000000000001 ∷ 0x8000000000000000 ∷ []) (at 0 0 false ∷ at 2 1 false ∷ at 1 0 false ∷ []) refl refl)
 
-p10 : FlowIs stackDepth twoWords 30 2
+p10 : FlowIs stackDepth twoWords (verdict (numbered 30) 2)
 unfolding spelledBy
 p10 =
     faulty (past (passed (compare start (omega arith) refl) (omega arith) goto))
@@ -100,19 +98,19 @@ _also_ : {A B : Type 0} → A → B → A × B
 a also b = (a, b)
 
 pub worked-sequences : WorkedSequences table
-unfolding wordRefusal standsRefused leftOpen closes isEngineWord isHigh readingOf formIn hasUnnamed notItsOp formOf spelledBy placingOf lengthsRefused inputRefused rehearse runOf stepOf withReading executeOf actOf engineWordOf sendOf syncOf messageOf callOf returnOf
+unfolding wordRefusal standsRefused leftOpen closes isEngineWord isHigh readingOf formIn hasKind highestStray notItsOp formOf spelledBy placingOf lengthsRefused inputRefused rehearse runOf stepOf withReading executeOf actOf engineWordOf sendOf syncOf messageOf callOf returnOf
 worked-sequences =
-    (by-flow 5 fourWords 0 0 refl refl p1 also tt)
+    (by-flow 5 fourWords (verdict (numbered 0) 0) refl refl p1 also tt)
     also (by-word 4 fourWords (verdict (numbered 20) 2) refl (check.first {a = 2} (omega arith) (pass 2 4 fourWords refl) (λ z. omega (arith, z))) (λ z. omega (arith, z)) also tt)
     also (refl also refl also refl also refl also refl also refl also tt)
     also (refl also refl also refl also refl also tt)
     also (refl also tt)
     also (refl also refl also refl also refl also refl also tt)
-    also (by-flow 0 (0x8000000000000000 ∷ []) 32 0 refl refl p6 also tt)
-    also (by-flow 0 (0xFFFFFFFFFFFFFFFF ∷ []) 30 1 refl refl p7 also tt)
-    also (by-flow 0 (0x7000000000000000 ∷ []) 31 0 refl refl p8 also tt)
-    also (by-flow 0 (0x7000000000000002 ∷ 0x6000000000000001 ∷ 0x8000000000000000 ∷ []) 0 0 refl refl p9 also tt)
-    also (by-flow 0 twoWords 30 2 refl refl p10 also tt)
+    also (by-flow 0 (0x8000000000000000 ∷ []) (verdict (numbered 32) 0) refl refl p6 also tt)
+    also (by-flow 0 (0xFFFFFFFFFFFFFFFF ∷ []) (verdict (numbered 30) 1) refl refl p7 also tt)
+    also (by-flow 0 (0x7000000000000000 ∷ []) (verdict (numbered 31) 0) refl refl p8 also tt)
+    also (by-flow 0 (0x7000000000000002 ∷ 0x6000000000000001 ∷ 0x8000000000000000 ∷ []) (verdict (numbered 0) 0) refl refl p9 also tt)
+    also (by-flow 0 twoWords (verdict (numbered 30) 2) refl refl p10 also tt)
     also (by-word 0 (0x2100000000000000 ∷ []) (verdict (numbered 12) 0) refl (check.first {a = 0} (omega arith) (λ b l. absurd (omega arith)) (λ z. omega (arith, z))) (λ z. omega (arith, z)) also tt)
     also (refl also refl also refl also tt)
     also tt
@@ -124,7 +122,7 @@ abbrev atZero : ℕ → State
 atZero k = withCore (withCount 0 k freshCore) fresh
 
 spends : (messages : List ℕ) (room : ℕ) (setting : Setting) (budget k : ℕ) → runOf budget (fixedBy twoWords messages room setting) (atZero k) .end .number ≡ 40
-unfolding readingOf formIn hasUnnamed notItsOp formOf spelledBy placingOf runOf stepOf withReading executeOf actOf
+unfolding readingOf formIn hasKind highestStray notItsOp formOf spelledBy placingOf runOf stepOf withReading executeOf actOf
 spends messages room setting zero k = refl
 spends messages room setting (suc zero) k = refl
 spends messages room setting (suc (suc budget)) k = spends messages room setting budget (k + 1 + 1)

@@ -10,7 +10,8 @@ use Rattle.jumps.specs.State.{Fixed}
 use Rattle.rehearsal.specs.Run.{rehearse}
 use Rattle.flow.specs.Walk.{Fault}
 use Rattle.verdict.specs.Words.{Passes}
-use Rattle.verdict.specs.Check.{verdict, checkInputRefused, CheckIs}
+use Rattle.verdict.specs.Check.{checkInputRefused, CheckIs}
+use Rattle.verdict.specs.Flow.{verdict}
 use Rattle.verdict.specs.declared.Verdict.{Verdict}
 
 -- ---- refused exactly

@@ -1,4 +1,5 @@
 pub mod Word
+pub mod Bit
 pub mod Run
 pub mod Check
 pub mod Worked

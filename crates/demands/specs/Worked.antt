@@ -9,7 +9,8 @@ use Rattle.dispatch.specs.Engines.{engineCount}
 use Rattle.jumps.specs.State.{Did, fixedBy}
 use Rattle.jumps.specs.declared.Setting.{Setting}
 use Rattle.rehearsal.specs.Run.{rehearse}
-use Rattle.verdict.specs.Check.{verdict, CheckIs}
+use Rattle.verdict.specs.Check.{CheckIs}
+use Rattle.verdict.specs.Flow.{verdict}
 use Rattle.verdict.specs.declared.Verdict.{Verdict}
 
 -- what is said of a check (number and place; accepted is 0 at 0), or of one field of a run's answer

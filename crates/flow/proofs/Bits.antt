@@ -11,7 +11,7 @@ use borrow.Author.Tests.{eqb-true, not-false}
 use lib.Dec.{eqb, lit<}
 use lib.Bits.{bitAnd, bitOr, or-shr, or-mod, and-shr, and-mod, and-le-r}
 use lib.Pow.{shr-shr, shl-shr, field, mod-mod-pow, pow-pos, pow-mono}
-use Rattle.reader.proofs.Masks.{none-below}
+use Rattle.reader.proofs.Below.{none-below}
 use Rattle.instruction.specs.declared.WordAddress.{WordAddress}
 use Rattle.flow.specs.declared.Move.{Move}
 use Rattle.flow.specs.declared.Move.the-variants.{Other, Compare, Jump, Enter, Leave, Loop}

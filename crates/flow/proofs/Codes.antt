@@ -9,7 +9,6 @@ use borrow.Author.Tests.{ltb-true}
 use native.Mathlib.Omega.{arith}
 use Rattle.instruction.specs.Table.{bodyOf}
 use Rattle.instruction.specs.Word.{codeIn, valuesIn, spelledBy}
-use Rattle.flow.specs.declared.Move.{Move}
 use Rattle.flow.specs.declared.Move.the-variants.{Other}
 use Rattle.flow.specs.Masks.{goesOn}
 use Rattle.flow.specs.Move.{moveOf}

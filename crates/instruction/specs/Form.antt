@@ -2,7 +2,7 @@
 -- "Form, from the word alone, lowest number wins."
 use Prim.Native.Nat.{ℕ, _%_, _^_}
 use mathlib.Core.Bool.{Bool, false, not, _||_, _&&_}
-use lib.Dec.{ltb, eqb}
+use lib.Dec.{ltb, eqb, leb}
 use Rattle.instruction.specs.Bits.{_gives_else_}
 use Rattle.instruction.specs.Table.{waitOp, syncOp}
 use Rattle.instruction.specs.declared.WaveformFields.{WaveformFields}
@@ -14,9 +14,13 @@ use Rattle.instruction.specs.declared.Instruction.{Instruction}
 use Rattle.instruction.specs.declared.Body.{Body}
 use Rattle.instruction.specs.declared.Body.the-variants.{Waveform, Marker, Wait, LoadRepeat, Repeat, Cmp, Goto, Call, Return, Sync, Modulator, LoadCmp, Prefetch, Noop}
 
--- a refusal is told by its number; 0 refuses nothing
+-- a refusal that is told by its number alone; 0 refuses nothing
 abbrev pub numbered : ℕ → Refusal
-numbered number = record { number = number }
+numbered number = record { number = number; bit = 0 }
+
+-- the numbers that tell a bit: 111, 112, 113
+abbrev pub tellsBit : ℕ → Bool
+tellsBit number = leb 111 number && leb number 113
 
 -- ---- the engine ops
 

@@ -14,12 +14,19 @@ use Rattle.instruction.specs.declared.ModulatorFields.{ModulatorFields}
 use Rattle.instruction.specs.declared.Body.{Body}
 use Rattle.instruction.specs.declared.Body.the-variants.{Waveform, Marker, Wait, LoadRepeat, Repeat, Cmp, Goto, Call, Return, Sync, Modulator, LoadCmp, Prefetch, Noop}
 
+-- "64-bit APS2 words"
+abbrev pub wordBits : ℕ
+wordBits = 64
+
 -- "Header: bits 63-60 op code, 59-58 engine select, 57 reserved, 56 write flag."
 abbrev pub opCode : Field
 opCode = 63 to 60
 
 abbrev pub engineSelect : Field
 engineSelect = 59 to 58
+
+abbrev pub reserved : Field
+reserved = 57 to 57
 
 abbrev pub writeFlag : Field
 writeFlag = 56 to 56
@@ -92,7 +99,7 @@ codeOf Noop = 15
 
 -- H2: "NOOP has no code in the manual; here it is the word of 64 ones"
 abbrev pub noopWord : ℕ
-noopWord = 2 ^ 64 - 1
+noopWord = 2 ^ wordBits - 1
 
 abbrev pub isNoop : Body → Bool
 isNoop b = eqb (codeOf b) (codeOf Noop)

@@ -4,7 +4,7 @@ ghost use mathlib.Core.Path.{_≡_};
 ghost use Prim.Native.Nat.{_<_};
 ghost use Rattle.instruction.specs.Bits.{_gives_else_, held, heldIn};
 ghost use Rattle.instruction.specs.Table.{engineSelect, writeFlag, engineOp, target, repeatCount, payloadOf, codeOf, waveformOf, markerOf, comparisonOf, modulatorOf, bodyOf};
-ghost use Rattle.instruction.specs.Form.{short, bodyForm, formOf};
+ghost use Rattle.instruction.specs.Form.{tellsBit, short, bodyForm, formOf};
 ghost use Rattle.instruction.specs.Word.{codeIn, valuesIn, spelledBy, byteSpan};
 
 // ---- Units: samples, quad-samples and word addresses are counted apart.
@@ -332,14 +332,14 @@ impl ModulatorFields {
 
 // ---- Refusals: one number each.
 
+// The bit is the one that 111, 112 and 113 are given for, and 0 beside every other number.
 pub struct Refusal {
     pub number: u64,
+    pub bit: u64,
 }
 
 impl Refusal {
     pub const NO_SUCH_CODE: u64 = 10;
-
-    pub const UNNAMED_BIT: u64 = 11;
 
     pub const NOT_ITS_OP: u64 = 12;
 
@@ -358,6 +358,19 @@ impl Refusal {
     pub const WIDE_PHASE: u64 = 19;
 
     pub const TOO_WIDE: u64 = 23;
+
+    // A bit is set that is not named: the header's reserved one, one above the highest field, one in a gap.
+    pub const RESERVED_BIT: u64 = 111;
+
+    pub const BIT_ABOVE: u64 = 112;
+
+    pub const BIT_IN_GAP: u64 = 113;
+
+    pub fn tells_bit(self) -> bool
+        ensures { λ r. ⌜ r ≡ tellsBit (self .number) ⌝ }
+    {
+        (Refusal::RESERVED_BIT <= self.number) & (self.number <= Refusal::BIT_IN_GAP)
+    }
 }
 
 // ---- The instruction.
@@ -400,7 +413,11 @@ impl Instruction {
 
     pub const ENGINE: Field = Field { low: 58, width: 2 };
 
+    pub const RESERVED: Field = Field { low: 57, width: 1 };
+
     pub const WRITE: Field = Field { low: 56, width: 1 };
+
+    pub const BITS: u64 = 64;
 
     // The bytes of a word that is handed over raw, and the values of a byte.
     pub const BYTES: u64 = 8;

@@ -2,8 +2,8 @@
 use instruction::Body;
 use libc::STDOUT_FILENO;
 use listing::Listing;
+use reader::coarse_of;
 use reader::instruction_in;
-use reader::refusal_of;
 use told::say;
 
 // A row of text that goes out in one piece: longer than any line of the listing with the names of its fields.
@@ -22,29 +22,29 @@ struct Pen {
     fields: usize,
 }
 
-// The names of entries, each ended by a space: a line has the first two and the number that it is BAD for; or the first two,
-// engine select and write flag, and its fields.
+// The names of entries, each ended by a space: a line has the first two and what it is BAD for, a number, or 11 with the finer
+// number and the bit; or the first two, engine select and write flag, and its fields.
 struct Keys;
 
 impl Keys {
-    const SIZE: usize = 102;
+    const SIZE: usize = 111;
 
     // The entry that is a name and no number.
     const NAME: u64 = 1;
 
-    const ENGINE: usize = 18;
+    const ENGINE: usize = 27;
 
-    const WAVEFORM: usize = 31;
+    const WAVEFORM: usize = 40;
 
-    const ADDRESS: usize = 43;
+    const ADDRESS: usize = 52;
 
-    const MARKER: usize = 51;
+    const MARKER: usize = 60;
 
-    const COUNT: usize = 71;
+    const COUNT: usize = 80;
 
-    const CMP: usize = 77;
+    const CMP: usize = 86;
 
-    const MODULATOR: usize = 87;
+    const MODULATOR: usize = 96;
 
     // Where the names of an instruction's fields begin.
     fn of(body: Body) -> usize {
@@ -150,7 +150,7 @@ fn put_line(row: &mut [u8; Row::SIZE], line: &[u8], keys: &[u8], fields: usize) 
 }
 
 fn fields_of(word: u64) -> usize {
-    if refusal_of(word).number != 0 {
+    if coarse_of(word) != 0 {
         return 0;
     }
     let i = instruction_in(word);
@@ -173,7 +173,7 @@ fn say_row(row: [u8; Row::SIZE], n: usize) {
 
 fn say_line(line: &[u8], fields: usize) {
     let keys: [u8; Keys::SIZE] =
-        *b"place name number engine write op ta count address op transition state count code mask op nco payload ";
+        *b"place name number kind bit engine write op ta count address op transition state count code mask op nco payload ";
     let mut row = [0u8; Row::SIZE];
     let end = put_line(&mut row, line, &keys, fields);
     say_row(row, end);

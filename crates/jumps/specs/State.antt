@@ -2,7 +2,6 @@
 -- antt has no record update, so each field of the core has a function that sets it.
 use Prim.Native.Nat.{ℕ}
 use mathlib.Core.List.{List, []}
-use mathlib.Core.Path.{_≡_}
 use lib.ListN.{length, replicate}
 use denote.Ref.{RefT, now}
 use Rattle.instruction.specs.Form.{numbered}

@@ -66,7 +66,7 @@ impl Stepped {
     pub fn stop(number: u64, core: Core) -> Stepped
         ensures { λ r. ⌜ r ≡ stopped number core ⌝ }
     {
-        let end = Refusal { number };
+        let end = Refusal { number, bit: 0 };
         Stepped { end, core }
     }
 
@@ -74,7 +74,7 @@ impl Stepped {
         ensures { λ r. ⌜ r ≡ stopped 0 core ⌝ }
     {
         Stepped {
-            end: Refusal { number: 0 },
+            end: Refusal { number: 0, bit: 0 },
             core,
         }
     }

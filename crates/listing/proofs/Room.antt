@@ -11,22 +11,26 @@ use borrow.Author.Tests.{leb-true}
 use lib.Dec.{leb, lit<, lit≤}
 use lib.Pow.{pow-pos, pow-mono}
 use lib.ListN.{length, getD, length-append}
-use Rattle.instruction.specs.Bits.{pick, _gives_else_, held}
+use Rattle.instruction.specs.Bits.{pick, held}
 use Rattle.instruction.specs.Table.{engineSelect, writeFlag, payloadOf, codeOf, isIgnored, noopWord, valuesOf, bodies, bodyOf}
-use Rattle.instruction.specs.Form.{unflagged, noSuchOp, useless, tooShort, askew, wrongNco, widePhase, bodyForm, formOf}
+use Rattle.instruction.specs.Form.{tellsBit}
 use Rattle.instruction.specs.Word.{codeIn, valuesIn, spelledBy}
 use Rattle.instruction.specs.declared.Field.{Field}
+use Rattle.instruction.specs.declared.Refusal.{Refusal}
 use Rattle.instruction.specs.declared.Instruction.{Instruction}
 use Rattle.instruction.specs.declared.Body.{Body}
 use Rattle.instruction.specs.declared.Body.the-variants.{Waveform, Marker, Wait, LoadRepeat, Repeat, Cmp, Goto, Call, Return, Sync, Modulator, LoadCmp, Prefetch, Noop}
-use Rattle.reader.specs.Reading.{noSuchCode, hasUnnamed, notItsOp, formIn, readingOf}
+use Rattle.reader.specs.Reading.{formIn, highestStray, refusedWith, readingOf}
 use Rattle.reader.specs.declared.Reading.{Reading}
 use Rattle.reader.proofs.Laws.{reads-noop, reads, refuses}
-use Rattle.reader.proofs.Masks.{none-below, code-small}
+use Rattle.reader.proofs.Below.{none-below}
+use Rattle.reader.proofs.Masks.{code-small}
+use Rattle.reader.proofs.Strays.{stray-inside}
+use Rattle.reader.proofs.Coarse.{form-small}
 use Rattle.text.specs.Line.{number, letters, decimal, restText, lineText, textOf}
 use Rattle.instruction.specs.Word.{wordBytes}
 use Rattle.names.specs.Names.{nameOf}
-use Rattle.listing.specs.Listing.{showsNone, shownOf, entriesOf, entriesIn, wordAt, linesFrom, listedWords, listingOf, lineSize, pageSize}
+use Rattle.listing.specs.Listing.{showsNone, shownOf, entriesOf, badNumbers, entriesIn, wordAt, linesFrom, listedWords, listingOf, lineSize, pageSize}
 use Rattle.page.proofs.Decimal.{decimal-short}
 use Rattle.listing.proofs.Lines.{noop-line, other-line, listing-8, listing-9, listing-lines}
 
@@ -196,27 +200,20 @@ instruction-short i e f h = by (ℕ-discrete (codeOf (i .body)) (codeOf Noop))
           shown-few (i .body),
         )
 
--- a form number has two digits
-gives-small : (t : Bool) {n m : ℕ} → n < 100 → m < 100 → (t gives n else m) < 100
-gives-small true p q = p
-gives-small false p q = q
+-- a refusal shows three numbers at the most
+bad-short : (r : Refusal) → r .number < 2 ^ widest → r .bit < 2 ^ widest → length (restText (map number (badNumbers r))) ≤ 34
+bad-short r n b = by (tellsBit (r .number))
+  where
+    by : (t : Bool) → length (restText (map number (pick t (11 ∷ r .number ∷ r .bit ∷ []) (r .number ∷ [])))) ≤ 34
+    by true = numbers-short (11 ∷ r .number ∷ r .bit ∷ []) (lit< tt, (n, (b, tt)))
+    by false = let x = numbers-short (r .number ∷ []) (n, tt) in omega (arith, x)
 
-body-form-small : (write : ℕ) (b : Body) → bodyForm write b < 100
-body-form-small write b =
-    gives-small (unflagged write b) (lit< tt)
-    (gives-small (noSuchOp b) (lit< tt)
-    (gives-small (useless b) (lit< tt)
-    (gives-small (tooShort b) (lit< tt)
-    (gives-small (askew b) (lit< tt)
-    (gives-small (wrongNco b) (lit< tt)
-    (gives-small (widePhase b) (lit< tt) (lit< tt)))))))
-
-form-small : (w : ℕ) → formIn w < 100
-unfolding formIn formOf
-form-small w =
-    gives-small (noSuchCode w) (lit< tt)
-    (gives-small (hasUnnamed w) (lit< tt)
-    (gives-small (notItsOp w) (lit< tt) (body-form-small (spelledBy w .write) (spelledBy w .body))))
+bit-small : (w : ℕ) → refusedWith w (formIn w) .bit < 2 ^ widest
+bit-small w = by (tellsBit (formIn w))
+  where
+    by : (t : Bool) → pick t (highestStray w) 0 < 2 ^ widest
+    by true = omega (arith, stray-inside w)
+    by false = lit< tt
 
 spelled-short : (w : ℕ) → length (restText (entriesOf (spelledBy w))) ≤ restSize
 unfolding spelledBy
@@ -233,7 +230,7 @@ rest-short w = by (ℕ-discrete w noopWord) (ℕ-discrete (formIn w) 0)
     by : Dec (w ≡ noopWord) → Dec (formIn w ≡ 0) → length (restText (entriesIn (readingOf w))) ≤ restSize
     by (yes p) d = told (reads-noop w p) (lit≤ tt)
     by (no p) (yes z) = told (reads w p z) (spelled-short w)
-    by (no p) (no z) = told (refuses w p z) (omega (arith, decimal-short 1 (formIn w) (form-small w), length-append (decimal (formIn w)) (restText [])))
+    by (no p) (no z) = told (refuses w p z) (omega (arith, bad-short (refusedWith w (formIn w)) (lt-of-lt-of-le (form-small w) (lit≤ tt)) (bit-small w)))
 
 pub line-short : (a w : ℕ) → a < 10 ^ 20 → length (lineText (number a) (entriesIn (readingOf w))) ≤ lineSize
 line-short a w l = omega (arith, length-append (decimal a) (restText (entriesIn (readingOf w))), decimal-short 19 a l, rest-short w)

@@ -8,6 +8,8 @@ use lib.Dec.{ltb, eqb, leb}
 use lib.ListN.{length, getD, drop}
 use Rattle.instruction.specs.Bits.{pick}
 use Rattle.instruction.specs.Table.{codeOf, isNoop, isIgnored, valuesOf}
+use Rattle.instruction.specs.Form.{tellsBit}
+use Rattle.instruction.specs.declared.Refusal.{Refusal}
 use Rattle.instruction.specs.declared.Instruction.{Instruction}
 use Rattle.instruction.specs.declared.Body.{Body}
 use Rattle.instruction.specs.declared.Body.the-variants.{Wait, Sync}
@@ -46,10 +48,14 @@ shownOf b = pick (showsNone b) [] (valuesOf b)
 abbrev pub entriesOf : Instruction → List Entry
 entriesOf i = name (nameOf (i .body)) ∷ pick (isNoop (i .body)) [] (number (i .engine) ∷ number (i .write) ∷ map number (shownOf (i .body)))
 
+-- "number"; for a bit that is not named "the `BAD` line prints 11 and then the finer number and the bit"
+abbrev pub badNumbers : Refusal → List ℕ
+badNumbers r = pick (tellsBit (r .number)) (11 ∷ r .number ∷ r .bit ∷ []) (r .number ∷ [])
+
 -- "A word that fails form prints address, `BAD`, number."
 abbrev pub entriesIn : Reading → List Entry
 entriesIn (Accepted i) = entriesOf i
-entriesIn (Refused r) = name "BAD" ∷ number (r .number) ∷ []
+entriesIn (Refused r) = name "BAD" ∷ map number (badNumbers r)
 
 abbrev pub lineOf : ℕ → ℕ → Line
 lineOf a word = record { first = number a; rest = entriesIn (readingOf word) }

@@ -2,16 +2,16 @@
 // Each function that writes takes the place to write from and answers with the place behind what it wrote.
 ghost use mathlib.Core.Path.{_≡_};
 ghost use mathlib.Core.List.{[], _∷_, _++_, map};
-ghost use Prim.Native.Nat.{_≤_, _<_, _+_, _*_, _%_};
+ghost use Prim.Native.Nat.{_≤_, _<_, _+_, _*_};
 ghost use lib.ListN.{length, take, drop};
 ghost use Rattle.buffer.specs.Put.{Fits, Put};
 ghost use Rattle.reader.specs.Reading.{readingOf};
-ghost use Rattle.text.specs.Cut.{tab, lineFeed};
-ghost use Rattle.text.specs.Line.{Entry, name, number, letters, digit, decimal, restText, lineText, textOf};
-ghost use Rattle.instruction.specs.Word.{wordBytes, byteSpan};
-ghost use Rattle.listing.specs.Listing.{wordAt, shownOf, entriesOf, entriesIn, linesFrom, headerText, listingOf, heardSize, heardOf, pageSize, Listed};
+ghost use Rattle.text.specs.Line.{name, number, restText, lineText, textOf};
+ghost use Rattle.instruction.specs.Word.{wordBytes};
+ghost use Rattle.listing.specs.Listing.{wordAt, shownOf, entriesOf, badNumbers, entriesIn, linesFrom, headerText, listingOf, heardSize, heardOf, pageSize, Listed};
 use instruction::Body;
 use instruction::Instruction;
+use instruction::Refusal;
 use names::put_name;
 use page::put_end;
 use page::put_four;
@@ -23,8 +23,8 @@ use page::put_two;
 use page::put_value;
 use page::put_word;
 use reader::Reading;
+use reader::coarse_of;
 use reader::instruction_in;
-use reader::refusal_of;
 
 pub struct Listing;
 
@@ -35,6 +35,9 @@ impl Listing {
 
     // What the header line says of the listing's form.
     pub const EDITION: u64 = 1;
+
+    // A bit is set that is not named; which kind it is, and which bit, come after it.
+    pub const UNNAMED: u64 = 11;
 
     // The bytes are no whole number of words.
     pub const NOT_WHOLE: u64 = 8;
@@ -92,13 +95,24 @@ fn put_instruction(page: &mut [u8], at: usize, i: Instruction) -> usize
     put_fields(page, flag, body)
 }
 
+// The number of a word that fails form, or 11, the finer number and the bit; and the end of the line.
+fn put_refusal(page: &mut [u8], at: usize, refusal: Refusal) -> usize
+    requires { ⌜ Fits (restText (map number (badNumbers refusal))) (now page) at ⌝ }
+    ensures { λ r. ⌜ Put (restText (map number (badNumbers refusal))) (now (page .entry)) at (now (page .exit)) r ⌝ }
+{
+    if refusal.tells_bit() {
+        return put_three(page, at, Listing::UNNAMED, refusal.number, refusal.bit);
+    }
+    put_one(page, at, refusal.number)
+}
+
 // What follows the address of a word that fails form.
-fn put_bad(page: &mut [u8], at: usize, refusal: u64) -> usize
-    requires { ⌜ Fits (restText (name "BAD" ∷ number refusal ∷ [])) (now page) at ⌝ }
-    ensures { λ r. ⌜ Put (restText (name "BAD" ∷ number refusal ∷ [])) (now (page .entry)) at (now (page .exit)) r ⌝ }
+fn put_bad(page: &mut [u8], at: usize, refusal: Refusal) -> usize
+    requires { ⌜ Fits (restText (name "BAD" ∷ map number (badNumbers refusal))) (now page) at ⌝ }
+    ensures { λ r. ⌜ Put (restText (name "BAD" ∷ map number (badNumbers refusal))) (now (page .entry)) at (now (page .exit)) r ⌝ }
 {
     let named = put_word(page, at, b"BAD");
-    put_one(page, named, refusal)
+    put_refusal(page, named, refusal)
 }
 
 fn put_reading(page: &mut [u8], at: usize, reading: Reading) -> usize
@@ -107,7 +121,7 @@ fn put_reading(page: &mut [u8], at: usize, reading: Reading) -> usize
 {
     match reading {
         Reading::Accepted(i) => put_instruction(page, at, i),
-        Reading::Refused(r) => put_bad(page, at, r.number),
+        Reading::Refused(r) => put_bad(page, at, r),
     }
 }
 
@@ -116,7 +130,7 @@ fn put_line(page: &mut [u8], at: usize, address: u64, word: u64) -> usize
     requires { ⌜ Fits (lineText (number address) (entriesIn (readingOf word))) (now page) at ⌝ }
     ensures { λ r. ⌜ Put (lineText (number address) (entriesIn (readingOf word))) (now (page .entry)) at (now (page .exit)) r ⌝ }
 {
-    let reading = Reading::of(refusal_of(word), instruction_in(word));
+    let reading = Reading::of(word, coarse_of(word), instruction_in(word));
     let told = put_number(page, at, address);
     put_reading(page, told, reading)
 }

@@ -2,13 +2,13 @@
 -- Assumes nothing.
 use Prim.Native.Nat.{ℕ, zero, suc, _+_, _-_, _≤_, _<_}
 use mathlib.Core.Path.{_≡_, refl, sym, ap, ap₂, _∙_}
-use mathlib.Core.Bool.{Bool, true, false, not, _||_, _&&_}
+use mathlib.Core.Bool.{Bool, true, false, not, _&&_}
 use mathlib.Core.List.{List, [], _∷_, _++_, map, append-assoc, append-nil}
 use native.Mathlib.Omega.{arith}
 use native.Mathlib.Decide.{ℕ-discrete, decLt}
 use borrow.Author.Tests.{eq-eqb, ne-eqb, eqb-true, leb-true, le-leb, lt-leb, lt-ltb, le-ltb}
-use lib.Dec.{ltb, eqb, leb}
-use lib.ListN.{length, getD, set, take, drop, length-append}
+use lib.Dec.{eqb, leb}
+use lib.ListN.{length, getD, set, take, drop, length-append, length-map}
 use lib.Seq.{getD-drop}
 use Rattle.instruction.specs.Bits.{pick}
 use Rattle.instruction.specs.Table.{bodyOf}
@@ -16,17 +16,16 @@ use Rattle.instruction.specs.declared.Instruction.{Instruction}
 use Rattle.instruction.specs.declared.Body.{Body}
 use Rattle.buffer.specs.Put.{put}
 use Rattle.buffer.proofs.Laws.{put-none, length-put, put-more, put-front}
-use Rattle.text.specs.Cut.{tab, cut, Row, fieldsIn, placeOf, fieldsAfter}
+use Rattle.text.specs.Cut.{tab, cut, Row, placeOf, fieldsAfter}
 use Rattle.text.specs.Number.{value, isNumber, fieldAt, countedAt}
 use Rattle.text.specs.declared.Counted.{Counted}
-use Rattle.text.proofs.Below.{allBelow, all-below}
+use Rattle.text.proofs.Below.{all-below}
 use Rattle.text.proofs.Cuts.{cut-first, found-order, found-inside, found-piece}
 use Rattle.text.proofs.Back.{number-said, number-not}
 use Rattle.text.proofs.Rows.{after-last, after-next, field-next}
 use Rattle.names.specs.Names.{nameCount, rowNamed}
 use Rattle.listing.specs.Listing.{entriesOf}
 use Rattle.writer.specs.Writing.{notWritten, writtenOf}
-use Rattle.writer.specs.declared.Written.{Written}
 use Rattle.listing_reader.specs.ReadBack.{instructionOf, allNumbers, hasFields, fieldsRead, lineRead, fieldCount, knownRead, NumbersRead}
 use Rattle.text.proofs.Bools.{never, and-false}
 
@@ -43,10 +42,6 @@ all-join (x ∷ xs) ys = by (isNumber x) (all-join xs ys)
 values-join : (xs ys : List (List ℕ)) → map value (xs ++ ys) ≡ map value xs ++ map value ys
 values-join [] ys = refl
 values-join (x ∷ xs) ys = ap (λ (l : List ℕ). value x ∷ l) (values-join xs ys)
-
-values-length : (xs : List (List ℕ)) → length (map value xs) ≡ length xs
-values-length [] = refl
-values-length (x ∷ xs) = ap suc (values-length xs)
 
 -- k numbers stand in front of place `at`, and their values are laid
 pub record Gathered (line : List ℕ) (from count : ℕ) (before values : List ℕ) (at k : ℕ) : Type 0 where
@@ -67,7 +62,7 @@ module _ (line : List ℕ) (from count : ℕ) (before : List ℕ) (h : from ≤ 
 
   module _ {values : List ℕ} {at k : ℕ} (g : Gathered line from count before values at k) where
     pub gather-length : length values ≡ length before
-    gather-length = ap length (g .wrote) ∙ length-put before (map value (g .done)) 0 (omega (arith, l, g .few, g .size, values-length (g .done)))
+    gather-length = ap length (g .wrote) ∙ length-put before (map value (g .done)) 0 (omega (arith, l, g .few, g .size, length-map (g .done) value))
 
     all-there : length line ≤ at → fieldsAfter from line ≡ g .done
     all-there e = g .fields ∙ ap (λ (fs : List (List ℕ)). g .done ++ fs) (after-last line at e) ∙ append-nil (g .done)
@@ -113,8 +108,8 @@ module _ (line : List ℕ) (from count : ℕ) (before : List ℕ) (h : from ≤ 
               good = all-join (g .done) (field ∷ []) ∙ rw (g .good, said .0);
               fields = next ∙ sym (append-assoc (g .done) (field ∷ []) rest) ∙ ap (λ (i : ℕ). (g .done ++ (field ∷ [])) ++ fieldsAfter i line) (sym (said .2));
               wrote =
-                  ap₂ (λ (t : List ℕ) (i : ℕ). set t i (r .value)) (g .wrote) (place (length (map value (g .done))) k (values-length (g .done) ∙ g .size))
-                  ∙ put-more before (map value (g .done)) 0 (r .value) (omega (arith, l, values-length (g .done), g .size))
+                  ap₂ (λ (t : List ℕ) (i : ℕ). set t i (r .value)) (g .wrote) (place (length (map value (g .done))) k (length-map (g .done) value ∙ g .size))
+                  ∙ put-more before (map value (g .done)) 0 (r .value) (omega (arith, l, length-map (g .done) value, g .size))
                   ∙ ap (λ (x : ℕ). put before 0 (map value (g .done) ++ (x ∷ []))) (said .1)
                   ∙ ap (put before 0) (sym (values-join (g .done) (field ∷ [])));
             }

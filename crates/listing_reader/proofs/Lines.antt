@@ -1,13 +1,13 @@
 -- Laws of a listing's lines: the header, lines judged one after the other, and their words laid from the front.
 -- Assumes nothing.
-use Prim.Native.Nat.{ℕ, zero, suc, _+_, _-_, _≤_, _<_}
-use mathlib.Core.Path.{_≡_, refl, sym, ap, ap₂, subst, _∙_}
-use mathlib.Core.Bool.{Bool, true, false, not, _||_, _&&_}
+use Prim.Native.Nat.{ℕ, _+_, _-_, _≤_, _<_}
+use mathlib.Core.Path.{_≡_, refl, sym, ap, ap₂, _∙_}
+use mathlib.Core.Bool.{Bool, true, false, not}
 use mathlib.Core.List.{List, [], _∷_, _++_, map, append-assoc, append-nil}
 use native.Mathlib.Omega.{arith}
 use native.Mathlib.Decide.{ℕ-discrete, decLt}
-use borrow.Author.Tests.{eq-eqb, ne-eqb, eqb-true, leb-false, le-leb, lt-leb, lt-ltb, le-ltb, ltb-true}
-use lib.Dec.{ltb, eqb, leb}
+use borrow.Author.Tests.{eq-eqb, ne-eqb, le-leb, lt-leb, lt-ltb, ltb-true}
+use lib.Dec.{eqb, leb}
 use lib.ListN.{length, set, take, drop, length-append}
 use lib.Seq.{take-all}
 use Rattle.instruction.specs.Bits.{pick}
@@ -21,7 +21,7 @@ use Rattle.text.proofs.Rows.{rows-none, rows-next}
 use Rattle.listing.specs.Listing.{headerText}
 use Rattle.writer.specs.Writing.{notWritten, writtenOf}
 use Rattle.writer.specs.declared.Written.{Written}
-use Rattle.listing_reader.specs.ReadBack.{isKnown, isShaped, fieldsRead, wishIn, lineRead, lineNumber, wordIn, refusedAt, toldOf, isHeaded, bodyRows, readBack, wordsIn, ReadsBack}
+use Rattle.listing_reader.specs.ReadBack.{isKnown, isShaped, wishIn, lineRead, lineNumber, wordIn, refusedAt, toldOf, isHeaded, bodyRows, readBack, wordsIn, ReadsBack}
 use Rattle.listing_reader.specs.declared.ReadBack.{ReadBack}
 
 -- ---- the header
@@ -137,9 +137,6 @@ module _ (room a : ℕ) (row : Row) (rows : List Row) where
 pub told-none : (room a : ℕ) → toldOf room a [] ≡ record { number = 0; line = 0; count = a }
 unfolding toldOf
 told-none room a = refl
-
-abbrev rowsFrom : List ℕ → ℕ → List Row
-rowsFrom text at = rowsIn (drop at text)
 
 pub record Judging (text : List ℕ) (from room at a : ℕ) : Type 0 where
   pub order : a + from ≤ at

@@ -1,7 +1,6 @@
 -- `one-answer-read-listing`: the contract of `read_listing` leaves one answer and one content of the buffer.
 -- Assumes nothing.
 use mathlib.Core.Path.{_≡_, sym, ap, _∙_}
-use mathlib.Core.Bool.{Bool}
 use mathlib.Core.List.{List, _++_}
 use lib.Dec.{eqb}
 use lib.ListN.{length, drop}

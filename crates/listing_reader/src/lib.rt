@@ -2,7 +2,7 @@
 // Every line is judged before the first word is written, so that the buffer has all words or is as it was.
 ghost use mathlib.Core.Path.{_≡_};
 ghost use mathlib.Core.List.{map};
-ghost use Prim.Native.Nat.{_≤_, _<_};
+ghost use Prim.Native.Nat.{_<_};
 ghost use lib.ListN.{length, drop};
 ghost use Rattle.instruction.specs.Bits.{pick};
 ghost use Rattle.buffer.specs.Put.{put};
@@ -15,7 +15,7 @@ use listing::put_header;
 use text::find;
 use text::same;
 
-pub mod line;
+mod line;
 
 // What is told of a text: 0 and how many words it has, or the number of a refusal and its line.
 pub struct ReadBack {

@@ -2,8 +2,6 @@
 // The core goes by value and the arrays are lent beside it: measured, this runs as plain C does.
 ghost use mathlib.Core.Path.{_≡_};
 ghost use mathlib.Core.Bool.{true, false};
-ghost use mathlib.Core.List.{List};
-ghost use Prim.Native.Nat.{ℕ};
 ghost use lib.ListN.{length};
 ghost use lib.Dec.{eqb};
 ghost use Rattle.instruction.specs.Bits.{pick};
@@ -26,8 +24,8 @@ use jumps::call;
 use jumps::message;
 use jumps::ret;
 use reader::Reading;
+use reader::coarse_of;
 use reader::instruction_in;
-use reader::refusal_of;
 use sequence::Sequence;
 
 // The held words and this one go out together, or 43.
@@ -235,7 +233,7 @@ pub fn step(
         return Stepped::stop(Sequence::PAST_THE_END, s);
     }
     let word = words[at];
-    let reading = Reading::of(refusal_of(word), instruction_in(word));
+    let reading = Reading::of(word, coarse_of(word), instruction_in(word));
     let Reading::Accepted(i) = reading else {
         let end = reading.refusal();
         return Stepped { end, core: s };

@@ -1,22 +1,21 @@
 -- Laws of names: every row of the table has its own, which its third letter and its length tell, and what is written of it is the name.
 -- Assumes nothing.
 use Prim.Native.Nat.{ℕ, zero, suc, _+_, _-_, _≤_, _<_}
-use mathlib.Core.Path.{_≡_, refl, sym, ap, ap₂, _∙_}
+use mathlib.Core.Path.{_≡_, refl, sym, ap, _∙_}
 use mathlib.Core.Bool.{Bool, true, false, _&&_}
-use mathlib.Core.List.{List, [], _∷_, _++_}
+use mathlib.Core.List.{List, _∷_, _++_}
 use native.Mathlib.Omega.{arith}
 use borrow.Author.Tests.{eqb-true, leb-true}
 use lib.Dec.{eqb, leb}
 use lib.ListN.{length, take, drop, getD}
 use lib.Seq.{take-append-seam}
 use Rattle.instruction.specs.Bits.{pick}
-use Rattle.instruction.specs.Table.{bodyOf}
 use Rattle.instruction.specs.declared.Body.{Body}
 use Rattle.instruction.specs.declared.Body.the-variants.{Waveform, Marker, Wait, LoadRepeat, Repeat, Cmp, Goto, Call, Return, Sync, Modulator, LoadCmp, Prefetch, Noop}
-use Rattle.buffer.specs.Put.{put, Put}
+use Rattle.buffer.specs.Put.{Put}
 use Rattle.text.specs.Cut.{tab, sameText}
 use Rattle.text.specs.Line.{letters}
-use Rattle.text.proofs.Alike.{same-text, same-self}
+use Rattle.text.proofs.Alike.{same-text}
 use Rattle.text.proofs.Below.{allBelow, all-below}
 use Rattle.names.specs.Names.{nameOf, nameCount, nameAt, namedFrom, rowNamed, guessOf}
 use Rattle.text.proofs.Bools.{both}

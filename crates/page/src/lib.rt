@@ -1,14 +1,14 @@
 // Text on a page: numbers in decimal, names, and the last numbers of a line.
 // Whoever writes lines has made room on the page before, so that no byte asks for it.
 ghost use mathlib.Core.Path.{_≡_};
-ghost use mathlib.Core.List.{[], _∷_, _++_};
-ghost use Prim.Native.Nat.{_≤_, _<_, _+_, _*_, _%_};
-ghost use lib.ListN.{length, take, drop};
+ghost use mathlib.Core.List.{[], _∷_};
+ghost use Prim.Native.Nat.{_%_};
+ghost use lib.ListN.{length};
 ghost use Rattle.buffer.specs.Put.{Fits, Put};
-ghost use Rattle.text.specs.Cut.{tab, lineFeed};
-ghost use Rattle.text.specs.Line.{Entry, name, number, letters, digit, decimal, restText};
+ghost use Rattle.text.specs.Cut.{tab};
+ghost use Rattle.text.specs.Line.{number, digit, decimal, restText};
 
-pub fn digit_count(n: u64) -> usize
+fn digit_count(n: u64) -> usize
     ensures { λ r. ⌜ r ≡ length (decimal n) ⌝ }
 {
     let mut rest = n;
@@ -20,7 +20,7 @@ pub fn digit_count(n: u64) -> usize
     count
 }
 
-pub fn last_digit(n: u64) -> u8
+fn last_digit(n: u64) -> u8
     ensures { λ r. ⌜ r ≡ digit (n % 10) ⌝ }
 {
     let d = n % 10;
@@ -44,7 +44,7 @@ pub fn put_number(page: &mut [u8], at: usize, n: u64) -> usize
     end
 }
 
-pub fn put_byte(page: &mut [u8], at: usize, b: u8) -> usize
+fn put_byte(page: &mut [u8], at: usize, b: u8) -> usize
     requires { ⌜ Fits (b ∷ []) (now page) at ⌝ }
     ensures { λ r. ⌜ Put (b ∷ []) (now (page .entry)) at (now (page .exit)) r ⌝ }
 {

@@ -1,7 +1,7 @@
 -- Laws of reading: what a word reads as, by its tests.
 -- Assumes nothing.
 use mathlib.Core.Path.{_≡_, refl, sym, ap, ap₂, _∙_}
-use mathlib.Core.Bool.{Bool, true, false, not, _&&_}
+use mathlib.Core.Bool.{Bool, true, false, not, _&&_, true≢false}
 use mathlib.Core.List.{List}
 use native.Mathlib.Decide.{ℕ-discrete}
 use Prim.Native.Nat.{ℕ, zero, suc, _<_, _≤_}
@@ -9,18 +9,18 @@ use native.Mathlib.Omega.{arith}
 use lib.Dec.{eqb, leb}
 use borrow.Author.Tests.{eq-eqb, ne-eqb, eqb-true, le-leb, lt-leb, leb-true, le-ltb}
 use Rattle.instruction.specs.Bits.{pick, held, heldIn}
-use Rattle.instruction.specs.Form.{numbered, bodyForm, formOf}
+use Rattle.instruction.specs.Form.{numbered, tellsBit, bodyForm, formOf}
 use Rattle.instruction.specs.declared.Refusal.{Refusal}
 use Rattle.instruction.specs.Table.{engineSelect, writeFlag, payloadOf, waveformOf, bodyOf, noopWord}
 use Rattle.instruction.specs.Word.{codeIn, valuesIn, spelledBy, noop}
 use Rattle.instruction.specs.declared.WaveformFields.{WaveformFields}
-use Rattle.instruction.specs.declared.Instruction.{Instruction}
 use Rattle.instruction.specs.declared.Body.{Body}
 use Rattle.instruction.specs.declared.Body.the-variants.{Waveform}
 use Rattle.instruction.proofs.Laws.{form-at}
-use Rattle.reader.specs.Reading.{hasUnnamed, notItsOp, formIn, instructionIn, judged, readingOf, refusalOf, numberOf}
-use Rattle.reader.specs.declared.Reading.{Reading}
+use Rattle.reader.specs.Masks.{hasUnnamed}
+use Rattle.reader.specs.Reading.{notItsOp, kindOf, formIn, highestStray, refusedWith, instructionIn, judged, readingOf, refusalOf, numberOf}
 use Rattle.reader.specs.declared.Reading.the-variants.{Accepted, Refused}
+use Rattle.reader.proofs.Strays.{kind-told, none-told, kind-tells, stray-none}
 
 pub reads-noop : (w : ℕ) → w ≡ noopWord → readingOf w ≡ Accepted noop
 unfolding readingOf
@@ -30,7 +30,7 @@ pub reads : (w : ℕ) → (w ≡ noopWord → ⊥) → formIn w ≡ 0 → readin
 unfolding readingOf
 reads w h e = simp (ne-eqb _ _ h, eq-eqb _ _ e)
 
-pub refuses : (w : ℕ) → (w ≡ noopWord → ⊥) → (formIn w ≡ 0 → ⊥) → readingOf w ≡ Refused (record { number = formIn w })
+pub refuses : (w : ℕ) → (w ≡ noopWord → ⊥) → (formIn w ≡ 0 → ⊥) → readingOf w ≡ Refused (refusedWith w (formIn w))
 unfolding readingOf
 refuses w h e = simp (ne-eqb _ _ h, ne-eqb _ _ e)
 
@@ -38,17 +38,34 @@ pub form-10 : (w : ℕ) → 13 ≤ codeIn w → formIn w ≡ 10
 unfolding formIn
 form-10 w h = rw (le-leb 13 (codeIn w) h)
 
-pub form-11 : (w : ℕ) → codeIn w < 13 → hasUnnamed w ≡ true → formIn w ≡ 11
+pub form-unnamed : (w : ℕ) → codeIn w < 13 → hasUnnamed w ≡ true → formIn w ≡ kindOf (codeIn w) (highestStray w)
 unfolding formIn
-form-11 w h u = rw (lt-leb 13 (codeIn w) h, u)
+form-unnamed w h u = rw (lt-leb 13 (codeIn w) h) (kind-told w _ u)
 
 pub form-12 : (w : ℕ) → codeIn w < 13 → hasUnnamed w ≡ false → notItsOp w ≡ true → formIn w ≡ 12
 unfolding formIn
-form-12 w h u o = rw (lt-leb 13 (codeIn w) h, u, o)
+form-12 w h u o = rw (lt-leb 13 (codeIn w) h) (none-told w _ u ∙ rw o)
 
 pub form-rest : (w : ℕ) → codeIn w < 13 → hasUnnamed w ≡ false → notItsOp w ≡ false → formIn w ≡ formOf (spelledBy w)
 unfolding formIn
-form-rest w h u o = rw (lt-leb 13 (codeIn w) h, u, o)
+form-rest w h u o = rw (lt-leb 13 (codeIn w) h) (none-told w _ u ∙ rw o)
+
+-- ---- the bit beside a number
+
+pub with-unnamed : (w : ℕ) → codeIn w < 13 → hasUnnamed w ≡ true → refusedWith w (formIn w) ≡ record { number = kindOf (codeIn w) (highestStray w); bit = highestStray w }
+with-unnamed w h u =
+    ap (refusedWith w) (form-unnamed w h u)
+    ∙ ap (λ (t : Bool). record { number = kindOf (codeIn w) (highestStray w); bit = pick t (highestStray w) 0 }) (kind-tells (codeIn w) (highestStray w))
+
+-- none of a word whose bits are all named
+pub with-named : (w n : ℕ) → hasUnnamed w ≡ false → refusedWith w n ≡ numbered n
+with-named w n u =
+    ap (λ (bit : ℕ). record { number = n; bit = pick (tellsBit n) bit 0 }) (stray-none w u)
+    ∙ ap (λ (bit : ℕ). record { number = n; bit = bit }) (either-way (tellsBit n))
+  where
+    either-way : (t : Bool) → pick {A = ℕ} t 0 0 ≡ 0
+    either-way true = refl
+    either-way false = refl
 
 -- ---- the words that are met most
 
@@ -105,48 +122,34 @@ flow-passes w l h u =
 pub refusal-noop : (w : ℕ) → w ≡ noopWord → numbered 0 ≡ refusalOf (readingOf w)
 refusal-noop w e = ap refusalOf (sym (reads-noop w e))
 
-pub refusal-form : (w : ℕ) → (w ≡ noopWord → ⊥) → numbered (formIn w) ≡ refusalOf (readingOf w)
+pub refusal-form : (w : ℕ) → (w ≡ noopWord → ⊥) → refusedWith w (formIn w) ≡ refusalOf (readingOf w)
 refusal-form w h = by (ℕ-discrete (formIn w) 0)
   where
-    by : Dec (formIn w ≡ 0) → numbered (formIn w) ≡ refusalOf (readingOf w)
-    by (yes z) = ap numbered z ∙ ap refusalOf (sym (reads w h z))
+    by : Dec (formIn w ≡ 0) → refusedWith w (formIn w) ≡ refusalOf (readingOf w)
+    by (yes z) = ap (refusedWith w) z ∙ ap refusalOf (sym (reads w h z))
     by (no z) = ap refusalOf (sym (refuses w h z))
+
+number-form : (w : ℕ) → (w ≡ noopWord → ⊥) → formIn w ≡ numberOf (readingOf w)
+number-form w h = ap (λ (r : Refusal). r .number) (refusal-form w h)
 
 -- a word whose number is 0 reads as what it spells, and any other as its refusal
 module _ (w : ℕ) where
-  form-of : (w ≡ noopWord → ⊥) → formIn w ≡ numberOf (readingOf w)
-  form-of h = ap (λ (r : Refusal). r .number) (refusal-form w h)
-
   pub reads-instruction : numberOf (readingOf w) ≡ 0 → Accepted (instructionIn w) ≡ readingOf w
   reads-instruction z = by (ℕ-discrete w noopWord)
     where
       by : Dec (w ≡ noopWord) → Accepted (instructionIn w) ≡ readingOf w
       by (yes e) = ap (λ (b : Bool). Accepted (pick b noop (spelledBy w))) (eq-eqb w noopWord e) ∙ sym (reads-noop w e)
-      by (no h) = ap (λ (b : Bool). Accepted (pick b noop (spelledBy w))) (ne-eqb w noopWord h) ∙ sym (reads w h (form-of h ∙ z))
-
-  pub refuses-whole : (numberOf (readingOf w) ≡ 0 → ⊥) → Refused (refusalOf (readingOf w)) ≡ readingOf w
-  refuses-whole n = by (ℕ-discrete w noopWord)
-    where
-      by : Dec (w ≡ noopWord) → Refused (refusalOf (readingOf w)) ≡ readingOf w
-      by (yes e) = absurd (n (ap numberOf (reads-noop w e)))
-      by (no h) = ap Refused (sym (refusal-form w h)) ∙ sym (refuses w h (λ z. n (sym (form-of h) ∙ z)))
-
-  -- a reading is put together out of its number and its instruction
-  pub puts-together : judged (numberOf (readingOf w)) (instructionIn w) ≡ readingOf w
-  puts-together = by (ℕ-discrete (numberOf (readingOf w)) 0)
-    where
-      by : Dec (numberOf (readingOf w) ≡ 0) → judged (numberOf (readingOf w)) (instructionIn w) ≡ readingOf w
-      by (yes z) = ap (λ (b : Bool). pick b (Accepted (instructionIn w)) (Refused (refusalOf (readingOf w)))) (eq-eqb (numberOf (readingOf w)) 0 z) ∙ reads-instruction z
-      by (no n) = ap (λ (b : Bool). pick b (Accepted (instructionIn w)) (Refused (refusalOf (readingOf w)))) (ne-eqb (numberOf (readingOf w)) 0 n) ∙ refuses-whole n
-
-  pub put-together : {r : Reading} {q : Refusal} {i : Instruction} → r ≡ judged (q .number) i → q ≡ refusalOf (readingOf w) → i ≡ instructionIn w → r ≡ readingOf w
-  put-together e f g = e ∙ ap₂ (λ (q : Refusal) (i : Instruction). judged (q .number) i) f g ∙ puts-together
+      by (no h) = ap (λ (b : Bool). Accepted (pick b noop (spelledBy w))) (ne-eqb w noopWord h) ∙ sym (reads w h (number-form w h ∙ z))
 
 -- ---- by the op code
 
-pub reads-form : (w : ℕ) → (w ≡ noopWord → ⊥) → readingOf w ≡ judged (formIn w) (spelledBy w)
+pub reads-form : (w : ℕ) → (w ≡ noopWord → ⊥) → readingOf w ≡ judged (refusedWith w (formIn w)) (spelledBy w)
 unfolding readingOf
 reads-form w h = rw (ne-eqb _ _ h)
+
+-- a bit that is not named is reason enough
+pub refuses-unnamed : (w : ℕ) → (w ≡ noopWord → ⊥) → codeIn w < 13 → hasUnnamed w ≡ true → readingOf w ≡ Refused (refusedWith w (formIn w))
+refuses-unnamed w h l u = refuses w h (λ z. true≢false (sym (kind-tells (codeIn w) (highestStray w)) ∙ ap tellsBit (sym (form-unnamed w l u) ∙ z)))
 
 -- what is laid out by a known op code, with the number that is given for it
 module _ (w : ℕ) {c : ℕ} (k : ℕ) (e : c ≡ codeIn w) (q : c ≡ k) where
@@ -154,10 +157,11 @@ module _ (w : ℕ) {c : ℕ} (k : ℕ) (e : c ≡ codeIn w) (q : c ≡ k) where
   unfolding spelledBy
   spells p = ap (λ (b : Body). record { engine = held w engineSelect; write = held w writeFlag; body = b }) (p ∙ ap (λ (n : ℕ). bodyOf n (valuesIn n w)) (sym q ∙ e))
 
-  pub read-by : {n : ℕ} {b : Body} → n ≡ formIn w → b ≡ bodyOf k (valuesIn k w) → judged n (record { engine = held w engineSelect; write = held w writeFlag; body = b }) ≡ judged (formIn w) (spelledBy w)
-  read-by {n} f p = ap (judged n) (spells p) ∙ ap (λ (n : ℕ). judged n (spelledBy w)) f
+  -- where no bit is set that is not named, the number is the whole refusal
+  pub read-by : {n : ℕ} {b : Body} → hasUnnamed w ≡ false → n ≡ formIn w → b ≡ bodyOf k (valuesIn k w) → judged (numbered n) (record { engine = held w engineSelect; write = held w writeFlag; body = b }) ≡ judged (refusedWith w (formIn w)) (spelledBy w)
+  read-by u f p = ap₂ judged (ap numbered f ∙ sym (with-named w (formIn w) u)) (spells p)
 
   -- the op codes but WAIT's and SYNC's
   pub read-as : {n : ℕ} {b : Body} → codeIn w < 13 → hasUnnamed w ≡ false → (k ≡ 2 → ⊥) → (k ≡ 9 → ⊥) → n ≡ bodyForm (held w writeFlag) (bodyOf k (valuesIn k w)) → b ≡ bodyOf k (valuesIn k w)
-      → judged n (record { engine = held w engineSelect; write = held w writeFlag; body = b }) ≡ judged (formIn w) (spelledBy w)
-  read-as l u wait sync f p = read-by (f ∙ form-at w e q ∙ sym (form-rest w l u (not-a-wait w (λ z. wait (sym q ∙ e ∙ z)) (λ z. sync (sym q ∙ e ∙ z))))) p
+      → judged (numbered n) (record { engine = held w engineSelect; write = held w writeFlag; body = b }) ≡ judged (refusedWith w (formIn w)) (spelledBy w)
+  read-as l u wait sync f p = read-by u (f ∙ form-at w e q ∙ sym (form-rest w l u (not-a-wait w (λ z. wait (sym q ∙ e ∙ z)) (λ z. sync (sym q ∙ e ∙ z))))) p

@@ -1,2 +1,5 @@
+pub mod Below
 pub mod Masks
+pub mod Strays
 pub mod Laws
+pub mod Coarse

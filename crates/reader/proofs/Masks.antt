@@ -1,41 +1,25 @@
 -- The table of sixteen masks is exactly the bits that the fields name, and a word is what its mask leaves of it just where no bit is set that is not named.
 -- Assumes nothing.
-use mathlib.Core.Path.{_≡_, refl, sym, ap, ap₂, _∙_}
-use mathlib.Core.Bool.{Bool, true, false, not, _||_, _&&_}
-use Prim.Native.Nat.{ℕ, zero, suc, _+_, _*_, _/_, _%_, _^_, _<_, min}
-use native.Mathlib.Nat.{div-one, div-add-mod', div-eq-of-lt, lt-of-lt-of-le, mod-lt}
+use mathlib.Core.Path.{_≡_, refl, sym, ap, ap₂, subst, _∙_}
+use mathlib.Core.Bool.{Bool, true, false, not, _&&_}
+use Prim.Native.Nat.{ℕ, zero, suc, _+_, _-_, _*_, _/_, _%_, _^_, _≤_, _<_, min}
+use native.Mathlib.Nat.{div-one, div-add-mod', div-eq-of-lt, div-eq-of-lt-le, lt-of-lt-of-le, mod-lt, pow-suc}
 use native.Mathlib.Numerals.{one-add}
 use native.Mathlib.Omega.{arith}
-use native.Mathlib.Decide.{ℕ-discrete, decLt}
+use native.Mathlib.Decide.{decLt}
 use borrow.Author.Tests.{eqb-true, eqb-false}
 use lib.Arith.{bin-ind}
-use lib.Bits.{bitAnd, and-shr, and-step, and-zero-l, and-zero-r, and-mod}
+use lib.Bits.{bitAnd, and-shr, and-step, and-zero-l, and-zero-r, and-mod, and-le-l}
 use lib.Dec.{eqb}
 use lib.ListN.{getD}
-use lib.Pow.{shr-shr, pow-mono}
+use lib.Count.{leadingZeros, leading-top}
+use lib.Pow.{shr-shr, pow-mono, pow-pos}
 use Rattle.instruction.specs.Bits.{isSet}
+use Rattle.instruction.specs.Table.{payloadOf}
 use Rattle.instruction.specs.Word.{codeIn}
-use Rattle.reader.specs.Masks.{namedBits}
-use Rattle.reader.specs.Reading.{someBelow, isNamed, hasUnnamed}
-
--- ---- what holds of some number below n
-
-either : (a b : Bool) → (a || b) ≡ false → (a ≡ false) × (b ≡ false)
-either true b e = (e, cc)
-either false b e = (refl, e)
-
-pub none-below : (n : ℕ) (test : ℕ → Bool) → someBelow n test ≡ false → (k : ℕ) → k < n → test k ≡ false
-none-below zero test e k h = absurd (omega arith)
-none-below (suc n) test e k h =
-    by (ℕ-discrete k n) (either (test n) (someBelow n test) e .0) (none-below n test (either (test n) (someBelow n test) e .1))
-  where
-    by : Dec (k ≡ n) → test n ≡ false → ((j : ℕ) → j < n → test j ≡ false) → test k ≡ false
-    by (yes q) top below = ap test q ∙ top
-    by (no q) top below = below k (omega arith)
-
-pub all-below : (n : ℕ) (test : ℕ → Bool) → ((k : ℕ) → k < n → test k ≡ false) → someBelow n test ≡ false
-all-below zero test h = refl
-all-below (suc n) test h = rw (h n (omega arith)) (all-below n test (λ k l. h k (omega arith)))
+use Rattle.reader.specs.Masks.{namedBits, hasUnnamed}
+use Rattle.reader.specs.Reading.{someBelow, isNamed, isStray, isAbove, highestStray}
+use Rattle.reader.proofs.Below.{Highest, none-below, all-below, one-below, highest-is, one-highest, highest-none}
 
 -- ---- the table
 
@@ -59,6 +43,18 @@ table-exact code k hc hk =
     same (isSet k (getD namedBits code 0)) (isNamed code k)
     (none-below 64 (λ j. differ (isSet j (getD namedBits code 0)) (isNamed code j))
     (none-below 16 (λ c. someBelow 64 (λ j. differ (isSet j (getD namedBits c 0)) (isNamed c j))) no-difference code hc)
+    k hk)
+
+-- one computed test again: a bit lies above every field just where the mask's payload has none from it on
+no-other-above : someBelow 16 (λ code. someBelow 64 (λ k. differ (eqb (getD namedBits code 0 % 2 ^ 56 / 2 ^ k) 0) (isAbove k (payloadOf code)))) ≡ false
+unfolding namedBits
+no-other-above = refl
+
+pub above-exact : (code k : ℕ) → code < 16 → k < 64 → eqb (getD namedBits code 0 % 2 ^ 56 / 2 ^ k) 0 ≡ isAbove k (payloadOf code)
+above-exact code k hc hk =
+    same (eqb (getD namedBits code 0 % 2 ^ 56 / 2 ^ k) 0) (isAbove k (payloadOf code))
+    (none-below 64 (λ j. differ (eqb (getD namedBits code 0 % 2 ^ 56 / 2 ^ j) 0) (isAbove j (payloadOf code)))
+    (none-below 16 (λ c. someBelow 64 (λ j. differ (eqb (getD namedBits c 0 % 2 ^ 56 / 2 ^ j) 0) (isAbove j (payloadOf c)))) no-other-above code hc)
     k hk)
 
 -- ---- single bits of what a mask leaves
@@ -99,14 +95,10 @@ unset k w e = let h = eqb-false (w / 2 ^ k % 2) 1 e in omega (arith, h, mod-lt (
 clear : (k w : ℕ) → w / 2 ^ k % 2 ≡ 0 → isSet k w ≡ false
 clear k w e = rw e
 
--- ---- number 11, by the mask
+-- ---- a bit that is not named, by the mask
 
-abbrev maskIn : ℕ → ℕ
+abbrev pub maskIn : ℕ → ℕ
 maskIn w = getD namedBits (codeIn w) 0
-
--- bit k is set and not named
-abbrev isStray : ℕ → ℕ → Bool
-isStray w k = isSet k w && not (isNamed (codeIn w) k)
 
 named-passes : (a b : Bool) → b ≡ true → (a && not b) ≡ false
 named-passes true b e = rw e
@@ -148,6 +140,80 @@ by-test w small true b p q = sym (no-stray w (eqb-true _ _ p)) ∙ q
 by-test w small false true p q = refl
 by-test w small false false p q = absurd (eqb-false _ _ p (all-left w small q))
 
--- 11 is given just where the mask does not leave the whole word
+-- a bit is set that is not named just where the mask does not leave the whole word
 pub unnamed-by-mask : (w : ℕ) → w < 2 ^ 64 → not (eqb (bitAnd w (maskIn w)) w) ≡ hasUnnamed w
 unnamed-by-mask w small = by-test w small (eqb (bitAnd w (maskIn w)) w) (hasUnnamed w) refl refl
+
+-- ---- the highest bit that is not named, by what the mask does not leave
+
+-- what a mask takes away, halved, is what half the mask takes away of half the word
+half-left : (w m : ℕ) → (w - bitAnd w m) / 2 ≡ w / 2 - bitAnd (w / 2) (m / 2)
+half-left w m = let s = and-step w m in let l = and-le-l (w / 2) (m / 2) in let b = low-le (w % 2) (m % 2) in omega (arith, s, l, b)
+  where
+    low-le : (x y : ℕ) → min x y ≤ x
+    low-le x y = omega arith
+
+shr-left : (k w m : ℕ) → (w - bitAnd w m) / 2 ^ k ≡ w / 2 ^ k - bitAnd (w / 2 ^ k) (m / 2 ^ k)
+shr-left zero w m = div-one (w - bitAnd w m) ∙ ap₂ (λ (x y : ℕ). x - bitAnd x y) (sym (div-one w)) (sym (div-one m))
+shr-left (suc k) w m =
+    sym (half-shr (w - bitAnd w m) k) ∙ ap (λ (x : ℕ). x / 2 ^ k) (half-left w m) ∙ shr-left k (w / 2) (m / 2)
+    ∙ ap₂ (λ (x y : ℕ). x - bitAnd x y) (half-shr w k) (half-shr m k)
+
+-- a bit of what is left over is set where the word has it and the mask has not
+low-left : (x y : ℕ) → (x - bitAnd x y) % 2 ≡ x % 2 - min (x % 2) (y % 2)
+low-left x y = let s = and-step x y in let l = and-le-l (x / 2) (y / 2) in let b = low-le (x % 2) (y % 2) in omega (arith, s, l, b)
+  where
+    low-le : (x y : ℕ) → min x y ≤ x
+    low-le x y = omega arith
+
+set-left : (w m k : ℕ) → isSet k (w - bitAnd w m) ≡ (isSet k w && not (isSet k m))
+set-left w m k =
+    ap (λ (x : ℕ). eqb (x % 2) 1) (shr-left k w m) ∙ ap (λ (x : ℕ). eqb x 1) (low-left (w / 2 ^ k) (m / 2 ^ k))
+    ∙ by (w / 2 ^ k % 2) (m / 2 ^ k % 2) (mod-lt (w / 2 ^ k) {m = 2} (omega arith)) (mod-lt (m / 2 ^ k) {m = 2} (omega arith))
+  where
+    by : (x y : ℕ) → x < 2 → y < 2 → eqb (x - min x y) 1 ≡ (eqb x 1 && not (eqb y 1))
+    by zero zero p q = refl
+    by zero (suc zero) p q = refl
+    by (suc zero) zero p q = refl
+    by (suc zero) (suc zero) p q = refl
+    by zero (suc (suc y)) p q = absurd (omega arith)
+    by (suc zero) (suc (suc y)) p q = absurd (omega arith)
+    by (suc (suc x)) y p q = absurd (omega arith)
+
+stray-set : (w k : ℕ) → k < 64 → isStray w k ≡ isSet k (w - bitAnd w (maskIn w))
+stray-set w k h = ap (λ (b : Bool). isSet k w && not b) (sym (table-exact (codeIn w) k (code-small w) h)) ∙ sym (set-left w (maskIn w) k)
+
+-- what is left over has its highest bit at j: so has the word of those that are not named
+pub top-stray : (w j : ℕ) → j < 64 → 2 ^ j ≤ w - bitAnd w (maskIn w) → w - bitAnd w (maskIn w) < 2 ^ suc j → highestStray w ≡ j
+unfolding highestStray
+top-stray w j h low high = one-highest 64 (isStray w) (highest-is 64 (isStray w) (one-below 64 (isStray w) j h set)) here
+  where
+    set : isStray w j ≡ true
+    set = stray-set w j h ∙ ap (λ (x : ℕ). eqb (x % 2) 1) (div-eq-of-lt-le {k = 1} (2 ^ j) (omega (arith, low)) (omega (arith, high, pow-suc 2 j)))
+
+    above : (k : ℕ) → k < 64 → j < k → isStray w k ≡ false
+    above k l more = stray-set w k l ∙ rw (div-eq-of-lt (lt-of-lt-of-le high (pow-mono {i = suc j} {j = k} (omega arith))))
+
+    here : Highest 64 (isStray w) j
+    here = record { below = h; passes = set; higher = above }
+
+-- the zeros above a bit that is set
+pub zeros-few : (a : ℕ) → (a ≡ 0 → ⊥) → a < 2 ^ 64 → leadingZeros 64 a ≤ 63
+zeros-few a n h = let z = leading-top 64 a (omega arith) h .1 in omega (arith, z)
+
+-- by the zeros above it
+pub top-bit : (w a : ℕ) → w < 2 ^ 64 → a ≡ w - bitAnd w (maskIn w) → (a ≡ 0 → ⊥) → 63 - leadingZeros 64 a ≡ highestStray w
+top-bit w a h e n =
+    let l = and-le-l w (maskIn w) in
+    let t = leading-top 64 a (omega arith) (omega arith) in
+    let j = t .0 in
+    let z = t .1 in
+    let p : 63 - leadingZeros 64 a ≡ j = omega (arith, z) in
+    p ∙ sym (top-stray w j (omega (arith, z)) (subst (λ (x : ℕ). 2 ^ j ≤ x) e (t .2)) (subst (λ (x : ℕ). x < 2 ^ suc j) e (t .3)))
+
+pub no-top : (w : ℕ) → w - bitAnd w (maskIn w) ≡ 0 → highestStray w ≡ 0
+unfolding highestStray
+no-top w z = highest-none 64 (isStray w) (all-below 64 (isStray w) (λ k h. stray-set w k h ∙ ap (isSet k) z ∙ clear k 0 (zero-bit k)))
+  where
+    zero-bit : (k : ℕ) → 0 / 2 ^ k % 2 ≡ 0
+    zero-bit k = rw (div-eq-of-lt (pow-pos k))

@@ -1,10 +1,19 @@
--- The code's table of sixteen masks, and what it knows of op codes on the way. Not for a reader of the contracts: proofs/Masks.antt shows that it is exactly the bits that the fields name.
+-- The code's table of sixteen masks, and what it knows of a word on the way. Not for a reader of the contracts: proofs/Masks.antt shows that it is exactly the bits that the fields name.
 use Prim.Native.Nat.{ℕ, _≤_}
 use mathlib.Core.Path.{_≡_}
+use mathlib.Core.Bool.{Bool}
 use mathlib.Core.List.{List, [], _∷_}
-use Rattle.instruction.specs.Table.{codeOf, lastCode, waveformOf}
-use Rattle.instruction.specs.Word.{codeIn}
+use lib.Dec.{eqb}
+use Rattle.instruction.specs.Bits.{pick, _gives_else_}
+use Rattle.instruction.specs.Table.{wordBits, codeOf, lastCode, noopWord, waveformOf}
+use Rattle.instruction.specs.Form.{numbered, formOf}
+use Rattle.instruction.specs.Word.{codeIn, spelledBy}
 use Rattle.instruction.specs.declared.Body.the-variants.{Waveform, LoadRepeat, Return}
+use Rattle.instruction.specs.declared.Refusal.{Refusal}
+use Rattle.instruction.specs.declared.Instruction.{Instruction}
+use Rattle.reader.specs.Reading.{someBelow, isStray, noSuchCode, kindOf, notItsOp, highestStray}
+use Rattle.reader.specs.declared.Reading.{Reading}
+use Rattle.reader.specs.declared.Reading.the-variants.{Accepted, Refused}
 
 unfoldable pub namedBits : List ℕ
 namedBits =
@@ -25,6 +34,34 @@ namedBits =
     ∷ 0xFD00_0000_0000_0000
     ∷ 0xFD00_0000_0000_0000
     ∷ []
+
+-- a bit is set that is not named, of whatever kind
+unfoldable pub hasUnnamed : ℕ → Bool
+hasUnnamed word = someBelow wordBits (isStray word)
+
+-- what stands for every bit that is not named, until the bit is looked for
+abbrev pub coarseUnnamed : ℕ
+coarseUnnamed = 111
+
+-- what every word is judged by: as `formIn`, with that one number
+unfoldable pub coarseIn : ℕ → ℕ
+coarseIn word =
+    noSuchCode word gives 10
+    else hasUnnamed word gives coarseUnnamed
+    else notItsOp word gives 12
+    else formOf (spelledBy word)
+
+-- H2
+abbrev pub coarseOf : ℕ → ℕ
+coarseOf word = pick (eqb word noopWord) 0 (coarseIn word)
+
+-- the refusal that it stands for: only there the bit is looked for
+abbrev pub finer : ℕ → ℕ → Refusal
+finer word coarse = pick (eqb coarse coarseUnnamed) (record { number = kindOf (codeIn word) (highestStray word); bit = highestStray word }) (numbered coarse)
+
+-- an instruction where it is 0, and else the refusal
+abbrev pub judgedBy : ℕ → ℕ → Instruction → Reading
+judgedBy word coarse i = pick (eqb coarse 0) (Accepted i) (Refused (finer word coarse))
 
 -- what a function knows of a word's op code that judges by it: WAVEFORM
 abbrev pub IsWaveform : ℕ → Type 0

@@ -1,12 +1,12 @@
--- What a word reads as: one instruction, or a form number. Document 01, "The word" and "Numbers given back".
--- What only a word can have wrong is judged here (10, 11, 12); 13 to 19 are the instruction's.
-use Prim.Native.Nat.{ℕ, zero, suc}
-use mathlib.Core.Bool.{Bool, false, not, _||_, _&&_}
+-- What a word reads as: one instruction, or a form number. Document 01, "The word" and "Numbers given back"; document 02, CR 2.
+-- What only a word can have wrong is judged here (10, 111 to 113, 12); 13 to 19 are the instruction's.
+use Prim.Native.Nat.{ℕ, zero, suc, _+_}
+use mathlib.Core.Bool.{Bool, true, false, not, _||_, _&&_}
 use mathlib.Core.List.{List, [], _∷_}
-use lib.Dec.{eqb, ltb}
+use lib.Dec.{eqb, ltb, leb}
 use Rattle.instruction.specs.Bits.{pick, _gives_else_, isSet, isIn, held}
-use Rattle.instruction.specs.Table.{opCode, engineSelect, writeFlag, engineOp, payloadOf, codeOf, lastCode, noopWord, waitOp, syncOp}
-use Rattle.instruction.specs.Form.{numbered, formOf}
+use Rattle.instruction.specs.Table.{wordBits, opCode, engineSelect, reserved, writeFlag, engineOp, payloadOf, codeOf, lastCode, noopWord, waitOp, syncOp}
+use Rattle.instruction.specs.Form.{numbered, tellsBit, formOf}
 use Rattle.instruction.specs.Word.{codeIn, spelledBy, noop}
 use Rattle.instruction.specs.declared.Field.{Field}
 use Rattle.instruction.specs.declared.Instruction.{Instruction}
@@ -33,9 +33,25 @@ isNamed code k = isInOne k (opCode ∷ engineSelect ∷ writeFlag ∷ payloadOf 
 abbrev pub noSuchCode : ℕ → Bool
 noSuchCode word = ltb lastCode (codeIn word)
 
--- "11 a bit set that is not named"
-unfoldable pub hasUnnamed : ℕ → Bool
-hasUnnamed word = someBelow 64 (λ k. isSet k word && not (isNamed (codeIn word) k))
+-- "a bit set that is not named": bit k of a word is one
+abbrev pub isStray : ℕ → ℕ → Bool
+isStray word k = isSet k word && not (isNamed (codeIn word) k)
+
+-- bit k "lies above the highest field": above every one of them
+abbrev pub isAbove : ℕ → List Field → Bool
+isAbove k [] = true
+isAbove k (f ∷ fs) = leb (f .low + f .width) k && isAbove k fs
+
+-- "header bit 57, a payload bit that no field of this op code reaches because it lies above the highest field, or a gap between or below fields"
+abbrev pub kindOf : ℕ → ℕ → ℕ
+kindOf code k =
+    isIn k reserved gives 111
+    else isAbove k (payloadOf code) gives 112
+    else 113
+
+-- a bit of this kind is set that is not named
+unfoldable pub hasKind : ℕ → ℕ → Bool
+hasKind kind word = someBelow wordBits (λ k. isStray word k && eqb (kindOf (codeIn word) k) kind)
 
 -- "12 WAIT or SYNC whose payload op is not its own"
 unfoldable pub notItsOp : ℕ → Bool
@@ -43,25 +59,40 @@ notItsOp word =
     (eqb (codeIn word) (codeOf Wait) && not (eqb (held word engineOp) waitOp))
     || (eqb (codeIn word) (codeOf Sync) && not (eqb (held word engineOp) syncOp))
 
--- "Form, from the word alone, lowest number wins"; 0 where none is given
+-- "Form, from the word alone, lowest number wins", 111 to 113 "in that order and at 11's place"; 0 where none is given
 unfoldable pub formIn : ℕ → ℕ
 formIn word =
     noSuchCode word gives 10
-    else hasUnnamed word gives 11
+    else hasKind 111 word gives 111
+    else hasKind 112 word gives 112
+    else hasKind 113 word gives 113
     else notItsOp word gives 12
     else formOf (spelledBy word)
+
+-- the highest number below n that passes a test; 0 where none does
+abbrev pub highestBelow : ℕ → (ℕ → Bool) → ℕ
+highestBelow zero test = 0
+highestBelow (suc n) test = pick (test n) n (highestBelow n test)
+
+-- "the highest offending bit as a number"
+unfoldable pub highestStray : ℕ → ℕ
+highestStray word = highestBelow wordBits (isStray word)
+
+-- "Tell the highest offending bit as a number, 0 beside any other refusal": of a word with this number
+abbrev pub refusedWith : ℕ → ℕ → Refusal
+refusedWith word number = record { number = number; bit = pick (tellsBit number) (highestStray word) 0 }
 
 -- what a word spells, with H2: NOOP is "tested before all else"
 abbrev pub instructionIn : ℕ → Instruction
 instructionIn word = pick (eqb word noopWord) noop (spelledBy word)
 
--- an instruction where the number is 0, and else the refusal with the number
-abbrev pub judged : ℕ → Instruction → Reading
-judged number i = pick (eqb number 0) (Accepted i) (Refused (numbered number))
+-- an instruction where the number is 0, and else the refusal, whole
+abbrev pub judged : Refusal → Instruction → Reading
+judged refusal i = pick (eqb (refusal .number) 0) (Accepted i) (Refused refusal)
 
 -- H2: NOOP is "tested before all else"
 unfoldable pub readingOf : ℕ → Reading
-readingOf word = pick (eqb word noopWord) (Accepted noop) (judged (formIn word) (spelledBy word))
+readingOf word = pick (eqb word noopWord) (Accepted noop) (judged (refusedWith word (formIn word)) (spelledBy word))
 
 -- the refusal of a reading; number 0 is accepted
 abbrev pub refusalOf : Reading → Refusal

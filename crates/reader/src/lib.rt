@@ -4,11 +4,12 @@ ghost use mathlib.Core.Path.{_≡_};
 ghost use mathlib.Core.Bool.{true, false};
 ghost use Prim.Native.Nat.{_<_};
 ghost use Rattle.instruction.specs.Bits.{held};
-ghost use Rattle.instruction.specs.Table.{engineSelect, writeFlag};
+ghost use Rattle.instruction.specs.Table.{wordBits, engineSelect, writeFlag};
+ghost use Rattle.instruction.specs.Form.{numbered};
 ghost use Rattle.instruction.specs.Word.{spelledBy};
 ghost use lib.ListN.{getD};
-ghost use Rattle.reader.specs.Masks.{namedBits, IsWaveform, IsFlow, IsCode};
-ghost use Rattle.reader.specs.Reading.{refusalOf, hasUnnamed, notItsOp, formIn, instructionIn, judged, readingOf};
+ghost use Rattle.reader.specs.Masks.{namedBits, hasUnnamed, coarseIn, coarseOf, finer, judgedBy, IsWaveform, IsFlow, IsCode};
+ghost use Rattle.reader.specs.Reading.{refusalOf, kindOf, highestStray, notItsOp, formIn, refusedWith, instructionIn, judged, readingOf};
 use instruction::Body;
 use instruction::Comparison;
 use instruction::EngineOp;
@@ -28,12 +29,15 @@ pub enum Reading {
 }
 
 impl Reading {
-    // An instruction, unless there is a refusal, whose number is then not 0.
-    pub fn of(refusal: Refusal, i: Instruction) -> Reading
-        ensures { λ r. ⌜ r ≡ judged (refusal .number) i ⌝ }
+    // What stands for every bit that is not named, until the bit is looked for.
+    const UNNAMED: u64 = Refusal::RESERVED_BIT;
+
+    // Of a word's coarse number and the instruction that it spells: that, unless the number is not 0.
+    pub fn of(word: u64, coarse: u64, i: Instruction) -> Reading
+        ensures { λ r. ⌜ r ≡ judgedBy word coarse i ⌝ }
     {
-        if refusal.number != 0 {
-            return Reading::Refused(refusal);
+        if coarse != 0 {
+            return Reading::Refused(finer(word, coarse));
         }
         Reading::Accepted(i)
     }
@@ -43,7 +47,7 @@ impl Reading {
         ensures { λ r. ⌜ r ≡ refusalOf self ⌝ }
     {
         match self {
-            Reading::Accepted(_) => Refusal { number: 0 },
+            Reading::Accepted(_) => Refusal { number: 0, bit: 0 },
             Reading::Refused(r) => r,
         }
     }
@@ -108,15 +112,41 @@ fn not_its_op(word: u64) -> bool
         | (code == Body::SYNC) & (op != EngineOp::WAIT_SYNC)
 }
 
-// The form number of a word that is not NOOP, the lowest first, or 0.
+// The highest bit that is set and not named, or 0.
+fn highest_stray(word: u64) -> u64
+    ensures { λ r. ⌜ r ≡ highestStray word ⌝ }
+{
+    let stray = word - (word & named_bits(Instruction::code_in(word)));
+    if stray == 0 {
+        return 0;
+    }
+    let above = u64::leading_zeros(stray) as u64;
+    Instruction::BITS - 1 - above
+}
+
+// 111, 112 or 113, of a bit that is not named.
+fn kind_of(code: u64, bit: u64) -> u64
+    requires { ⌜ (code < 16) × (bit < wordBits) ⌝ }
+    ensures { λ r. ⌜ r ≡ kindOf code bit ⌝ }
+{
+    if bit == Instruction::RESERVED.low {
+        return Refusal::RESERVED_BIT;
+    }
+    if (named_bits(code) % (1 << Ignored::PLACE.width)) >> bit == 0 {
+        return Refusal::BIT_ABOVE;
+    }
+    Refusal::BIT_IN_GAP
+}
+
+// The coarse number of a word that is not NOOP, the lowest first, or 0.
 fn form_in(word: u64) -> u64
-    ensures { λ r. ⌜ r ≡ formIn word ⌝ }
+    ensures { λ r. ⌜ r ≡ coarseIn word ⌝ }
 {
     if Body::PREFETCH < Instruction::code_in(word) {
         return Refusal::NO_SUCH_CODE;
     }
     if has_unnamed(word) {
-        return Refusal::UNNAMED_BIT;
+        return Reading::UNNAMED;
     }
     if not_its_op(word) {
         return Refusal::NOT_ITS_OP;
@@ -133,10 +163,10 @@ fn plays_well(word: u64) -> bool
     !has_unnamed(word) & (f.op == EngineOp::PLAY) & (QuadSamples::SHORTEST <= f.count.0)
 }
 
-// The form number of a WAVEFORM.
+// The coarse number of a WAVEFORM.
 fn waveform_form(word: u64) -> u64
     requires { ⌜ IsWaveform word ⌝ }
-    ensures { λ r. ⌜ r ≡ formIn word ⌝ }
+    ensures { λ r. ⌜ r ≡ coarseIn word ⌝ }
 {
     if plays_well(word) {
         return 0;
@@ -144,21 +174,21 @@ fn waveform_form(word: u64) -> u64
     form_in(word)
 }
 
-// The form number of LOAD_REPEAT to RETURN: nothing but a bit that is not named can be wrong.
+// The coarse number of LOAD_REPEAT to RETURN: nothing but a bit that is not named can be wrong.
 fn flow_form(word: u64) -> u64
     requires { ⌜ IsFlow word ⌝ }
-    ensures { λ r. ⌜ r ≡ formIn word ⌝ }
+    ensures { λ r. ⌜ r ≡ coarseIn word ⌝ }
 {
     if has_unnamed(word) {
-        Refusal::UNNAMED_BIT
+        Reading::UNNAMED
     } else {
         0
     }
 }
 
-// The form number of a word that is not NOOP; the words that are met most come first.
+// The coarse number of a word that is not NOOP; the words that are met most come first.
 fn form_of(word: u64) -> u64
-    ensures { λ r. ⌜ r ≡ formIn word ⌝ }
+    ensures { λ r. ⌜ r ≡ coarseIn word ⌝ }
 {
     let code = Instruction::code_in(word);
     if code == Body::WAVEFORM {
@@ -170,15 +200,30 @@ fn form_of(word: u64) -> u64
     form_in(word)
 }
 
-// The refusal of a word; number 0 where it is accepted.
-pub fn refusal_of(word: u64) -> Refusal
-    ensures { λ r. ⌜ r ≡ refusalOf (readingOf word) ⌝ }
+// The coarse number of a word, 0 where it is accepted: one for every bit that is not named, so that a good word pays nothing for the finer answer.
+pub fn coarse_of(word: u64) -> u64
+    ensures { λ r. ⌜ r ≡ coarseOf word ⌝ }
 {
-    if word == Instruction::NOOP {
-        return Refusal { number: 0 };
+    if word != Instruction::NOOP {
+        return form_of(word);
     }
+    0
+}
+
+// The refusal that a word's coarse number stands for.
+pub fn finer(word: u64, coarse: u64) -> Refusal
+    ensures { λ r. ⌜ r ≡ finer word coarse ⌝ }
+{
+    if coarse != Reading::UNNAMED {
+        return Refusal {
+            number: coarse,
+            bit: 0,
+        };
+    }
+    let bit = highest_stray(word);
     Refusal {
-        number: form_of(word),
+        number: kind_of(Instruction::code_in(word), bit),
+        bit,
     }
 }
 
@@ -196,12 +241,12 @@ pub fn instruction_in(word: u64) -> Instruction
     Instruction::spelled_by(word)
 }
 
-// What a word that is not NOOP reads as, of its number and the body that it spells.
+// What a word that is not NOOP and whose bits are named reads as, of its number and the body that it spells.
 fn judge(number: u64, word: u64, body: Body) -> Reading
-    ensures { λ r. ⌜ r ≡ judged number (record { engine = held word engineSelect; write = held word writeFlag; body = body }) ⌝ }
+    ensures { λ r. ⌜ r ≡ judged (numbered number) (record { engine = held word engineSelect; write = held word writeFlag; body = body }) ⌝ }
 {
     if number != 0 {
-        return Reading::Refused(Refusal { number });
+        return Reading::Refused(Refusal { number, bit: 0 });
     }
     Reading::Accepted(Instruction {
         engine: Instruction::engine_in(word),
@@ -213,7 +258,7 @@ fn judge(number: u64, word: u64, body: Body) -> Reading
 // A word whose bits are named, by its op code.
 fn read_named(word: u64) -> Reading
     requires { ⌜ IsCode word × (hasUnnamed word ≡ false) ⌝ }
-    ensures { λ r. ⌜ r ≡ judged (formIn word) (spelledBy word) ⌝ }
+    ensures { λ r. ⌜ r ≡ judged (refusedWith word (formIn word)) (spelledBy word) ⌝ }
 {
     match Instruction::code_in(word) {
         Body::WAVEFORM => {
@@ -259,12 +304,11 @@ pub fn read(word: u64) -> Reading
     if Body::PREFETCH < Instruction::code_in(word) {
         return Reading::Refused(Refusal {
             number: Refusal::NO_SUCH_CODE,
+            bit: 0,
         });
     }
     if has_unnamed(word) {
-        return Reading::Refused(Refusal {
-            number: Refusal::UNNAMED_BIT,
-        });
+        return Reading::Refused(finer(word, Reading::UNNAMED));
     }
     read_named(word)
 }

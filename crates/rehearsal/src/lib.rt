@@ -1,7 +1,6 @@
 // The rehearsal: a run without a module, for every list of words, waveform length, messages, triggers, trace and budget.
 // It takes exactly the steps that the instruction set gives.
 ghost use mathlib.Core.Path.{_≡_};
-ghost use lib.ListN.{length};
 ghost use Rattle.instruction.specs.Form.{numbered};
 ghost use Rattle.jumps.specs.State.{fixedIn, fresh};
 ghost use Rattle.jumps.specs.Lent.{stateIn, Leaves};
@@ -38,7 +37,7 @@ impl Answer {
             totals: [0; Engines::COUNT],
         };
         Answer {
-            end: Refusal { number },
+            end: Refusal { number, bit: 0 },
             state,
         }
     }

@@ -1,5 +1,6 @@
 // Words as lines of the listing.
 // A place is told with the word that stands there, and a long trace is cut.
+use instruction::Refusal;
 use instruction::WordAddress;
 use libc::STDOUT_FILENO;
 use listing::Listing;
@@ -66,14 +67,23 @@ fn say_past(words: &[u64], listed: bool) {
     }
 }
 
-// Where it is, and the listing's line of the word there.
-pub fn say_place(words: &[u64], place: WordAddress, listed: bool) {
+// The bit, where the number tells one.
+pub fn say_bit(refusal: Refusal) {
+    if refusal.tells_bit() {
+        say(b", bit ");
+        say_number(refusal.bit);
+    }
+}
+
+// Where a refusal is, its bit, and the listing's line of the word there.
+pub fn say_place(words: &[u64], refusal: Refusal, place: WordAddress, listed: bool) {
     if words.len() == 0 {
         say(b"\n");
         return;
     }
     say(b" at word ");
     say_number(place.0);
+    say_bit(refusal);
     let at = place.0 as usize;
     if words.len() <= at {
         say_past(words, listed);

@@ -1,20 +1,20 @@
 -- What is written is read back: its lines, their fields, and the number in a field; and a field that is read as a number
 -- is the text of that number.
 -- Assumes nothing.
-use Prim.Native.Nat.{ℕ, zero, suc, _+_, _≤_, _<_}
+use Prim.Native.Nat.{ℕ, _+_, _<_}
 use Prim.Native.String.{String}
 use mathlib.Core.Path.{_≡_, refl, sym, ap, _∙_}
 use mathlib.Core.Bool.{Bool, true, false, not, _||_, _&&_}
 use mathlib.Core.List.{List, [], _∷_, _++_, map, append-assoc}
 use native.Mathlib.Omega.{arith}
-use borrow.Author.Tests.{lt-ltb, ltb-true, ne-eqb, eqb-true}
+use borrow.Author.Tests.{lt-ltb, ne-eqb}
 use lib.Dec.{ltb, eqb}
 use Rattle.instruction.specs.Bits.{pick}
 use Rattle.text.specs.Cut.{tab, lineFeed, cut, placeOf, rowsIn}
-use Rattle.text.specs.Number.{isDigit, allDigits, noLeadingZero, plain, value, numbers, isNumber, uncounted, fieldAt, countedAt}
+use Rattle.text.specs.Number.{isDigit, allDigits, plain, value, numbers, isNumber, uncounted, fieldAt, countedAt}
 use Rattle.text.specs.declared.Counted.{Counted}
-use Rattle.text.specs.Line.{Entry, name, number, letters, decimal, entryText, restText, lineText, Line, textOf}
-use Rattle.text.proofs.Cuts.{has, joined, noneHas, cut-piece, cut-joined}
+use Rattle.text.specs.Line.{Entry, name, number, letters, decimal, entryText, lineText, Line}
+use Rattle.text.proofs.Cuts.{has, joined, noneHas, cut-joined}
 use Rattle.text.proofs.Decimals.{decimal-value, decimal-digits, decimal-plain, plain-decimal}
 use Rattle.text.proofs.Rows.{rows-line}
 use Rattle.text.proofs.Bools.{both}

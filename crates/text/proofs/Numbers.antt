@@ -1,7 +1,7 @@
 -- Laws of reading a number digit by digit.
 -- Assumes nothing.
-use Prim.Native.Nat.{ℕ, zero, suc, _+_, _*_, _-_, _/_, _≤_, _<_}
-use mathlib.Core.Path.{_≡_, refl, sym, ap, subst, _∙_}
+use Prim.Native.Nat.{ℕ, _+_, _*_, _-_, _≤_, _<_}
+use mathlib.Core.Path.{_≡_, refl, sym, ap, _∙_}
 use mathlib.Core.Bool.{Bool, true, false, not, _&&_, _||_}
 use mathlib.Core.List.{List, [], _∷_}
 use native.Mathlib.Omega.{arith}
@@ -14,7 +14,6 @@ use lib.Seq.{drop-cons}
 use Rattle.instruction.specs.Bits.{pick}
 use Rattle.text.specs.Cut.{tab, before, placeOf}
 use Rattle.text.specs.Number.{isDigit, allDigits, noLeadingZero, plain, valueFrom, value, numbers, isNumber, uncounted, fieldAt, countedAt, Spelled}
-use Rattle.text.specs.declared.Counted.{Counted}
 use Rattle.text.proofs.Cuts.{place-none, place-here, place-next, found-order, found-inside, found-piece}
 use Rattle.text.proofs.Bools.{and-false}
 

@@ -1,7 +1,7 @@
 -- A text in bytes, cut at a byte: at line feeds into lines, at tabs into fields.
 -- A line knows whether its line feed is there; nothing stands behind the last line feed of a text that is whole.
 use Prim.Native.Nat.{ℕ, _+_, _-_}
-use mathlib.Core.Bool.{Bool, true, false, _||_, _&&_}
+use mathlib.Core.Bool.{Bool, true, false, _&&_}
 use mathlib.Core.List.{List, [], _∷_}
 use lib.Dec.{ltb, eqb}
 use lib.ListN.{length, take, drop}

@@ -1,8 +1,8 @@
 -- A number that a person types: digits, and at most so much.
-use Prim.Native.Nat.{ℕ, _+_, _*_, _-_}
-use mathlib.Core.Bool.{Bool, true, false, _&&_}
+use Prim.Native.Nat.{ℕ, _+_}
+use mathlib.Core.Bool.{Bool, false}
 use mathlib.Core.List.{List, [], _∷_}
-use lib.Dec.{ltb, leb, eqb}
+use lib.Dec.{ltb}
 use Rattle.instruction.specs.Bits.{pick}
 use Rattle.text.specs.Number.{allDigits, valueFrom}
 use Rattle.typed.specs.declared.Amount.{Amount}

@@ -24,9 +24,9 @@ use Rattle.flow.proofs.Rules.{walked}
 use Rattle.sequence.specs.Bounds.{stackDepth}
 use Rattle.verdict.specs.Words.{wordRefusal}
 use Rattle.instruction.specs.Form.{numbered}
-use Rattle.verdict.specs.Check.{verdict, WordsAre, passed, first, CheckIs, input, word, flow}
+use Rattle.verdict.specs.Check.{WordsAre, passed, first, CheckIs, input, word, flow}
 use Rattle.verdict.specs.declared.Verdict.{Verdict}
-use Rattle.verdict.specs.Flow.{FlowIs, sound, faulty}
+use Rattle.verdict.specs.Flow.{verdict, FlowIs, sound, faulty}
 use Rattle.verdict.proofs.Laws.{some-on, place-of}
 
 -- numbers with the same bits are equal
@@ -101,13 +101,13 @@ one-number lim ws k j a f g =
     (λ p. ⊎-elim (λ q. let x = p .0 in let y = q .0 in absurd (omega arith)) (λ q. p .1 ∙ sym (q .1)) (number-at lim ws j a g))
     (number-at lim ws k a f)
 
-pub one-flow : (lim : ℕ) (ws : List ℕ) {k a j b : ℕ} → FlowIs lim ws k a → FlowIs lim ws j b → (k ≡ j) × (a ≡ b)
-one-flow lim ws (sound _) (sound _) = (refl, refl)
+pub one-flow : (lim : ℕ) (ws : List ℕ) {v w : Verdict} → FlowIs lim ws v → FlowIs lim ws w → v ≡ w
+one-flow lim ws (sound _) (sound _) = refl
 one-flow lim ws (sound n) (faulty {number = j} {a = b} g _) = absurd (n j b g)
 one-flow lim ws (faulty {number = k} {a = a} f _) (sound n) = absurd (n k a f)
 one-flow lim ws (faulty {number = k} {a = a} f l) (faulty {number = j} {a = b} g m) =
     let e : a ≡ b = le-antisymm (l j b g) (m k a f) in
-    (one-number lim ws k j a f (subst (λ (z : ℕ). Fault lim ws j z) (sym e) g), e)
+    ap₂ (λ (x y : ℕ). verdict (numbered x) y) (one-number lim ws k j a f (subst (λ (z : ℕ). Fault lim ws j z) (sym e) g)) e
 
 -- the first word that is refused
 pub one-words : (wave : ℕ) (words : List ℕ) {v w : Verdict} → WordsAre wave words v → WordsAre wave words w → v ≡ w
@@ -136,8 +136,7 @@ one-answer-check wave words marks (word _ p h) (flow _ all _ _) = absurd (h (ap 
 one-answer-check wave words marks (flow z _ _ _) (input h) = absurd (h z)
 one-answer-check wave words marks (flow _ all _ _) (word _ p h) = absurd (h (ap (λ (x : Verdict). x .refusal .number) (one-words wave words p (passed all))))
 one-answer-check wave words marks {ns = ns} {os = os} (flow _ _ m f) (flow _ _ k g) =
-    let o = one-flow stackDepth words f g in
-    (ap₂ (λ (x y : ℕ). verdict (numbered x) y) (o .0) (o .1), one-marks stackDepth words marks ns os (m .long ∙ sym (k .long)) (m .exact) (k .exact) (m .tail) (k .tail))
+    (one-flow stackDepth words f g, one-marks stackDepth words marks ns os (m .long ∙ sym (k .long)) (m .exact) (k .exact) (m .tail) (k .tail))
 
 -- ---- what the walk has seen
 

@@ -8,15 +8,11 @@ use lib.Dec.{ltb, eqb}
 use lib.ListN.{length}
 use Rattle.instruction.specs.Bits.{_gives_else_}
 use Rattle.instruction.specs.Form.{numbered}
-use Rattle.instruction.specs.declared.Refusal.{Refusal}
 use Rattle.sequence.specs.Bounds.{stackDepth, lengthsRefused}
 use Rattle.walk.specs.Marks.{Marked}
-use Rattle.verdict.specs.Flow.{FlowIs}
+use Rattle.verdict.specs.Flow.{verdict, FlowIs}
 use Rattle.verdict.specs.Words.{wordRefusal, Passes}
 use Rattle.verdict.specs.declared.Verdict.{Verdict}
-
-abbrev pub verdict : Refusal → ℕ → Verdict
-verdict refusal place = record { refusal = refusal; place = record { 0 = place } }
 
 -- 1, 2, 3, then "4 marks shorter than the words (check only)"; 0 where none is given
 unfoldable pub checkInputRefused : ℕ → ℕ → ℕ → ℕ
@@ -34,5 +30,5 @@ pub data WordsAre (wave : ℕ) (words : List ℕ) : Verdict → Type 0 where
 pub data CheckIs (wave : ℕ) (words marks : List ℕ) : Verdict → List ℕ → Type 0 where
   input : (checkInputRefused (length words) wave (length marks) ≡ 0 → ⊥) → CheckIs wave words marks (verdict (numbered (checkInputRefused (length words) wave (length marks))) 0) marks
   word : {v : Verdict} → checkInputRefused (length words) wave (length marks) ≡ 0 → WordsAre wave words v → (v .refusal .number ≡ 0 → ⊥) → CheckIs wave words marks v marks
-  flow : {number place : ℕ} {ns : List ℕ} → checkInputRefused (length words) wave (length marks) ≡ 0 → ((a : ℕ) → a < length words → Passes wave words a)
-      → Marked stackDepth words marks ns → FlowIs stackDepth words number place → CheckIs wave words marks (verdict (numbered number) place) ns
+  flow : {v : Verdict} {ns : List ℕ} → checkInputRefused (length words) wave (length marks) ≡ 0 → ((a : ℕ) → a < length words → Passes wave words a)
+      → Marked stackDepth words marks ns → FlowIs stackDepth words v → CheckIs wave words marks v ns

@@ -1,8 +1,7 @@
 // The whole check: the input, then each word where it stands, then flow.
 // A fault at a word is read off its mark; what lies past the last word is asked for once, at the end.
 ghost use mathlib.Core.Path.{_≡_};
-ghost use Prim.Native.Nat.{_≤_};
-ghost use Prim.Native.Nat.{_<_, _+_, _-_};
+ghost use Prim.Native.Nat.{_<_, _-_};
 ghost use lib.ListN.{length, drop};
 ghost use Rattle.sequence.specs.Bounds.{groupSize};
 ghost use Rattle.verdict.specs.Flow.{FlowIs, CanJudge};
@@ -15,8 +14,9 @@ use instruction::QuadSamples;
 use instruction::Refusal;
 use instruction::WordAddress;
 use look::fault_of;
+use reader::coarse_of;
+use reader::finer;
 use reader::instruction_in;
-use reader::refusal_of;
 use sequence::Sequence;
 use walk::Seen;
 
@@ -29,7 +29,7 @@ pub struct Verdict {
 // The verdict, of marks that are exact and of what the walk has seen.
 fn judge(words: &[u64], marks: &[u64], seen: Seen, limit: u64) -> Verdict
     requires { ⌜ CanJudge limit (now words) (now marks) (seen .back) (seen .faulty .0) ⌝ }
-    ensures { λ r. ⌜ FlowIs limit (now (words .entry)) (r .refusal .number) (r .place .0) ⌝ }
+    ensures { λ r. ⌜ FlowIs limit (now (words .entry)) r ⌝ }
 {
     let n = words.len();
     let a = seen.faulty.0 as usize;
@@ -37,6 +37,7 @@ fn judge(words: &[u64], marks: &[u64], seen: Seen, limit: u64) -> Verdict
         return Verdict {
             refusal: Refusal {
                 number: fault_of(Move::at(words[a]), marks[a], limit),
+                bit: 0,
             },
             place: WordAddress(a as u64),
         };
@@ -48,12 +49,13 @@ fn judge(words: &[u64], marks: &[u64], seen: Seen, limit: u64) -> Verdict
         return Verdict {
             refusal: Refusal {
                 number: Sequence::PAST_THE_END,
+                bit: 0,
             },
             place: WordAddress(n as u64),
         };
     }
     Verdict {
-        refusal: Refusal { number: 0 },
+        refusal: Refusal { number: 0, bit: 0 },
         place: WordAddress(0),
     }
 }
@@ -132,12 +134,13 @@ fn word_refusal(words: &[u64], wave: QuadSamples, a: usize) -> Refusal
     ensures { λ r. ⌜ r ≡ wordRefusal (wave .0) (now (words .entry)) a ⌝ }
 {
     let word = words[a];
-    let refusal = refusal_of(word);
-    if refusal.number != 0 {
-        return refusal;
+    let coarse = coarse_of(word);
+    if coarse != 0 {
+        return finer(word, coarse);
     }
     Refusal {
         number: stands_refused(words, wave, a + 1, instruction_in(word)),
+        bit: 0,
     }
 }
 
@@ -157,7 +160,7 @@ fn judge_words(words: &[u64], wave: QuadSamples) -> Verdict
         a += 1;
     }
     Verdict {
-        refusal: Refusal { number: 0 },
+        refusal: Refusal { number: 0, bit: 0 },
         place: WordAddress(0),
     }
 }
@@ -183,7 +186,10 @@ pub fn check(words: &[u64], wave: QuadSamples, marks: &mut [u64]) -> Verdict
     let input = input_refused(words.len() as u64, wave, marks.len() as u64);
     if input != 0 {
         return Verdict {
-            refusal: Refusal { number: input },
+            refusal: Refusal {
+                number: input,
+                bit: 0,
+            },
             place: WordAddress(0),
         };
     }

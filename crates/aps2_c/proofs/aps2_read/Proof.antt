@@ -1,6 +1,8 @@
--- Number and fields are those of the reading.
+-- Number, fields and bit are those of the reading.
 use mathlib.Core.Path.{sym, ap, _∙_}
-use Rattle.reader.specs.Reading.{numberOf}
+use mathlib.Core.List.{[], _∷_}
+use Rattle.reader.specs.Reading.{refusalOf, numberOf}
+use Rattle.reader.specs.declared.Reading.{Reading}
 use Rattle.aps2_c.specs.Fields.{told}
 use borrow.Author.Needs.{needs}
 use Rattle.aps2_c.proofs.aps2_read.Statement.{statement}
@@ -21,12 +23,12 @@ enum-known-reading-2 c = search needs
 returns : tie.Need-returns
 returns c =
     let e = sym (c .before .before .reading .given .1) ∙ c .before .before .before .before .read .ensures in
-    record { number = ap numberOf e; fields = c .fields-of .ensures ∙ ap told e }
+    record { number = ap numberOf e; fields = c .fields-of .ensures ∙ ap told e; bit = ap (λ (q : Reading). refusalOf q .bit ∷ []) e }
 
 returns-2 : tie.Need-returns-2
 returns-2 c =
-    let e = sym (c .before .before .reading2 .given .1) ∙ c .before .before .before .before .read .ensures in
-    record { number = ap numberOf e; fields = ap told e }
+    let e = sym (c .before .before .before .reading2 .given .1) ∙ c .before .before .before .before .before .read .ensures in
+    record { number = ap numberOf e; fields = ap told e; bit = ap (λ (q : Reading). refusalOf q .bit ∷ []) e }
 
 pub aps2-read-spec : {M : Type 1} → statement M
 aps2-read-spec =

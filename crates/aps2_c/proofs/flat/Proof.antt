@@ -1,9 +1,10 @@
 -- After each part that is laid, all parts up to it stand there, one behind the other; the last one makes the answer whole.
 use mathlib.Core.Path.{sym, _∙_}
+use mathlib.Core.List.{[], _∷_}
 use Rattle.buffer.specs.Put.{Put}
 use Rattle.buffer.proofs.Laws.{fits-next, puts-both}
 use borrow.Author.Needs.{needs}
-use Rattle.aps2_c.proofs.Parts.{Long, blank, first, middle, with-waits, with-totals, with-middle, with-returns, whole, waits-fit, totals-fit, middle-fit, returns-fit, whole-fit, whole-length, whole-flat, filled}
+use Rattle.aps2_c.proofs.Parts.{Long, blank, first, middle, with-waits, with-totals, with-middle, with-returns, with-counters, whole, waits-fit, totals-fit, middle-fit, returns-fit, counters-fit, whole-fit, whole-length, whole-flat, filled}
 use Rattle.aps2_c.proofs.flat.Statement.{statement}
 use Rattle.aps2_c.proofs.flat.Tie as tie
 
@@ -30,6 +31,9 @@ from-5 c = from-4 (c .before .before .before .before)
 abbrev from-6 : tie.After-lay6 → tie.Start
 from-6 c = from-5 (c .before .before .before .before)
 
+abbrev from-7 : tie.After-lay7 → tie.Start
+from-7 c = from-6 (c .before .before .before .before)
+
 -- ---- what stands there after each part
 
 laid-1 : (c : tie.After-lay) → Put (first (from-1 c .args .condition) (from-1 c .args .a)) blank 0 (c .lay .last .0) (c .lay .result)
@@ -55,10 +59,15 @@ laid-5 c =
     let s = from-5 c in
     puts-both (with-middle (s .args .condition) (s .args .a)) (s .args .a .state .returns) blank 0 (returns-fit (s .args .condition) (s .args .a) (long s)) (laid-4 (c .before .before .before .before)) (c .lay5 .ensures)
 
-laid-6 : (c : tie.After-lay6) → Put (whole (from-6 c .args .condition) (from-6 c .args .a)) blank 0 (c .lay6 .last .0) (c .lay6 .result)
+laid-6 : (c : tie.After-lay6) → Put (with-counters (from-6 c .args .condition) (from-6 c .args .a)) blank 0 (c .lay6 .last .0) (c .lay6 .result)
 laid-6 c =
     let s = from-6 c in
-    puts-both (with-returns (s .args .condition) (s .args .a)) (s .args .a .state .counters) blank 0 (whole-fit (s .args .condition) (s .args .a) (long s)) (laid-5 (c .before .before .before .before)) (c .lay6 .ensures)
+    puts-both (with-returns (s .args .condition) (s .args .a)) (s .args .a .state .counters) blank 0 (counters-fit (s .args .condition) (s .args .a) (long s)) (laid-5 (c .before .before .before .before)) (c .lay6 .ensures)
+
+laid-7 : (c : tie.After-lay7) → Put (whole (from-7 c .args .condition) (from-7 c .args .a)) blank 0 (c .lay7 .last .0) (c .lay7 .result)
+laid-7 c =
+    let s = from-7 c in
+    puts-both (with-counters (s .args .condition) (s .args .a)) (s .args .a .end .bit ∷ []) blank 0 (whole-fit (s .args .condition) (s .args .a) (long s)) (laid-6 (c .before .before .before .before)) (c .lay7 .ensures)
 
 -- ---- the needs
 
@@ -124,12 +133,23 @@ slice-aggregate-lay-12 c = sym (long (from-5 (c .before .before .before)) .count
 lay-requires-6 : tie.Need-lay-requires-6
 lay-requires-6 c κs =
     let s = from-5 (c .before .before .before) in
-    fits-next (with-returns (s .args .condition) (s .args .a)) (s .args .a .state .counters) blank 0 (whole-fit (s .args .condition) (s .args .a) (long s)) (laid-5 (c .before .before .before))
+    fits-next (with-returns (s .args .condition) (s .args .a)) (s .args .a .state .counters) blank 0 (counters-fit (s .args .condition) (s .args .a) (long s)) (laid-5 (c .before .before .before))
+
+slice-aggregate-lay-13 : tie.Need-slice-aggregate-lay-13
+slice-aggregate-lay-13 c = search needs
+
+slice-aggregate-lay-14 : tie.Need-slice-aggregate-lay-14
+slice-aggregate-lay-14 c = search needs
+
+lay-requires-7 : tie.Need-lay-requires-7
+lay-requires-7 c κs =
+    let s = from-6 (c .before .before .before) in
+    fits-next (with-counters (s .args .condition) (s .args .a)) (s .args .a .end .bit ∷ []) blank 0 (whole-fit (s .args .condition) (s .args .a) (long s)) (laid-6 (c .before .before .before))
 
 returns : tie.Need-returns
 returns c =
-    let s = from-6 (c .before) in
-    filled blank (whole (s .args .condition) (s .args .a)) (whole-length (s .args .condition) (s .args .a) (long s)) (laid-6 (c .before))
+    let s = from-7 (c .before) in
+    filled blank (whole (s .args .condition) (s .args .a)) (whole-length (s .args .condition) (s .args .a) (long s)) (laid-7 (c .before))
     ∙ whole-flat (s .args .condition) (s .args .a) (long s)
 
 pub flat-spec : {M : Type 1} → statement M
@@ -154,4 +174,7 @@ flat-spec =
     slice-aggregate-lay-11
     slice-aggregate-lay-12
     lay-requires-6
+    slice-aggregate-lay-13
+    slice-aggregate-lay-14
+    lay-requires-7
     returns)

@@ -1,5 +1,4 @@
 -- The page holds the line; it is handed over where it fits.
-use Prim.Native.Nat.{_<_}
 use mathlib.Core.Path.{_∙_}
 use native.Mathlib.Nat.{zero-add}
 use native.Mathlib.Omega.{arith}

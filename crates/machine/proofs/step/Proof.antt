@@ -3,7 +3,7 @@ use mathlib.Core.Path.{refl, sym, ap, _∙_}
 use denote.Ref.{now}
 use lib.ListN.{length}
 use Rattle.reader.specs.Reading.{refusalOf}
-use Rattle.reader.proofs.Laws.{put-together}
+use Rattle.reader.proofs.Coarse.{put-together}
 use Rattle.jumps.specs.State.{fixedBy, stateOf}
 use Rattle.jumps.proofs.Laws.{stopped-done}
 use Rattle.machine.proofs.Laws.{quiet, refused-done, step-past, step-refused, step-accepted}
@@ -25,8 +25,8 @@ mul-word c = search needs
 shared-slice-read-word : tie.Need-shared-slice-read-word
 shared-slice-read-word c = search needs
 
-refusal-of-requires : tie.Need-refusal-of-requires
-refusal-of-requires c κs = search needs
+coarse-of-requires : tie.Need-coarse-of-requires
+coarse-of-requires c κs = search needs
 
 instruction-in-requires : tie.Need-instruction-in-requires
 instruction-in-requires c κs = search needs
@@ -46,7 +46,7 @@ refusal-requires c κs = search needs
 returns-2 : tie.Need-returns-2
 returns-2 c =
     let a = c .before .before .before .before .before .before .before .before .before .before .before .args in
-    rw (step-refused (fixedBy (now (a .words)) (now (a .messages)) (length (now (a .trace))) (a .setting)) (stateOf (a .s) (now (a .returns)) (now (a .counters)) (now (a .waits)) (now (a .totals))) _ (c .before .before .before .before .before .before .before .if1 .left) (sym (put-together _ (c .before .before .before .of .ensures) (c .before .before .before .before .before .refusal-of .ensures) (c .before .before .before .before .instruction-in .ensures)) ∙ c .before .enum-told .given .1))
+    rw (step-refused (fixedBy (now (a .words)) (now (a .messages)) (length (now (a .trace))) (a .setting)) (stateOf (a .s) (now (a .returns)) (now (a .counters)) (now (a .waits)) (now (a .totals))) _ (c .before .before .before .before .before .before .before .if1 .left) (sym (put-together _ (c .before .before .before .of .ensures) (c .before .before .before .before .before .coarse-of .ensures) (c .before .before .before .before .instruction-in .ensures)) ∙ c .before .enum-told .given .1))
     (quiet (a .s .sent) (now (a .trace)) refl (refused-done (c .refusal .ensures ∙ ap refusalOf (c .before .enum-told .given .1))))
 
 execute-requires : tie.Need-execute-requires
@@ -58,7 +58,7 @@ same-length c = search needs
 returns-3 : tie.Need-returns-3
 returns-3 c =
     let a = c .before .before .before .before .before .before .before .before .before .before .before .before .before .before .before .before .before .before .before .args in
-    rw (step-accepted (fixedBy (now (a .words)) (now (a .messages)) (length (now (a .trace))) (a .setting)) (stateOf (a .s) (now (a .returns)) (now (a .counters)) (now (a .waits)) (now (a .totals))) _ (c .before .before .before .before .before .before .before .before .before .before .before .before .before .before .before .if1 .left) (sym (put-together _ (c .before .before .before .before .before .before .before .before .before .before .before .of .ensures) (c .before .before .before .before .before .before .before .before .before .before .before .before .before .refusal-of .ensures) (c .before .before .before .before .before .before .before .before .before .before .before .before .instruction-in .ensures)) ∙ c .before .before .before .before .before .before .before .before .before .reading .given .1)) (c .before .before .execute .ensures)
+    rw (step-accepted (fixedBy (now (a .words)) (now (a .messages)) (length (now (a .trace))) (a .setting)) (stateOf (a .s) (now (a .returns)) (now (a .counters)) (now (a .waits)) (now (a .totals))) _ (c .before .before .before .before .before .before .before .before .before .before .before .before .before .before .before .if1 .left) (sym (put-together _ (c .before .before .before .before .before .before .before .before .before .before .before .of .ensures) (c .before .before .before .before .before .before .before .before .before .before .before .before .before .coarse-of .ensures) (c .before .before .before .before .before .before .before .before .before .before .before .before .instruction-in .ensures)) ∙ c .before .before .before .before .before .before .before .before .before .reading .given .1)) (c .before .before .execute .ensures)
 
 pub step-spec : {M : Type 1} → statement M
 step-spec =
@@ -68,7 +68,7 @@ step-spec =
     returns
     mul-word
     shared-slice-read-word
-    refusal-of-requires
+    coarse-of-requires
     instruction-in-requires
     of-requires
     enum-known-reading

@@ -1,15 +1,10 @@
 -- The name is written, and compared.
-use mathlib.Core.Path.{subst, sym, ap, _∙_}
-use mathlib.Core.List.{List, [], _∷_}
-use Prim.Native.Nat.{ℕ, _≤_}
+use mathlib.Core.Path.{ap, _∙_}
 use native.Mathlib.Omega.{arith}
-use lib.ListN.{length}
-use Rattle.instruction.specs.Table.{bodyOf}
 use Rattle.instruction.specs.declared.Body.{Body}
-use Rattle.buffer.specs.Put.{Fits, Put}
-use Rattle.text.specs.Cut.{tab, sameText}
+use Rattle.text.specs.Cut.{sameText}
 use Rattle.text.specs.Line.{letters}
-use Rattle.names.specs.Names.{nameOf, nameAt}
+use Rattle.names.specs.Names.{nameOf}
 use Rattle.names.proofs.Rows.{name-short, written-name}
 use borrow.Author.Needs.{needs}
 use Rattle.names.proofs.is_name.Statement.{statement}

@@ -1,5 +1,5 @@
 -- No other row than the guess can have the name.
-use mathlib.Core.Path.{subst, sym, ap, _∙_}
+use mathlib.Core.Path.{subst, sym, _∙_}
 use Prim.Native.Nat.{ℕ, _<_}
 use Rattle.names.specs.Names.{nameCount}
 use Rattle.names.proofs.Rows.{named-short, named-here, guess-not, guess-row}

@@ -5,6 +5,7 @@ use Rattle.instruction.specs.Form.{bodyForm}
 use Rattle.instruction.specs.declared.Body.the-variants.{Waveform, Marker, LoadRepeat, Repeat, Cmp, Goto, Call, Modulator, Prefetch}
 use Rattle.instruction.proofs.Laws.{past}
 use Rattle.reader.proofs.Laws.{read-by, read-as}
+use Rattle.reader.proofs.Coarse.{coarse-named}
 use borrow.Author.Needs.{needs}
 use Rattle.reader.proofs.read_named.Statement.{statement}
 use Rattle.reader.proofs.read_named.Tie as tie
@@ -103,7 +104,7 @@ returns-2 : tie.Need-returns-2
 returns-2 c = c .judge2 .ensures ∙ read-as (c .before .before .before .before .before .args .word) 1 (c .before .before .before .before .code-in .ensures) (c .before .before .before .match .keys2) (omega (arith, c .before .before .before .before .before .pre .0)) (c .before .before .before .before .before .pre .1) (λ z. omega arith) (λ z. omega arith) (c .before .form2 .ensures ∙ ap (λ f. bodyForm 0 (Marker f)) (c .before .before .spelled-by2 .ensures)) (ap Marker (c .before .before .spelled-by2 .ensures))
 
 returns-3 : tie.Need-returns-3
-returns-3 c = c .judge3 .ensures ∙ read-by (c .before .before .before .before .args .word) 2 (c .before .before .before .code-in .ensures) (c .before .before .match .keys3) (c .before .form-in .ensures) refl
+returns-3 c = c .judge3 .ensures ∙ read-by (c .before .before .before .before .args .word) 2 (c .before .before .before .code-in .ensures) (c .before .before .match .keys3) (c .before .before .before .before .pre .1) (c .before .form-in .ensures ∙ coarse-named _ (omega (arith, c .before .before .before .before .pre .0)) (c .before .before .before .before .pre .1)) refl
 
 returns-4 : tie.Need-returns-4
 returns-4 c = c .judge4 .ensures ∙ read-as (c .before .before .before .before .args .word) 3 (c .before .before .before .code-in .ensures) (c .before .before .match .keys4) (omega (arith, c .before .before .before .before .pre .0)) (c .before .before .before .before .pre .1) (λ z. omega arith) (λ z. omega arith) refl (ap LoadRepeat (c .before .spelled-by3 .ensures))
@@ -124,7 +125,7 @@ returns-9 : tie.Need-returns-9
 returns-9 c = c .judge9 .ensures ∙ read-as (c .before .before .before .args .word) 8 (c .before .before .code-in .ensures) (c .before .match .keys9) (omega (arith, c .before .before .before .pre .0)) (c .before .before .before .pre .1) (λ z. omega arith) (λ z. omega arith) refl refl
 
 returns-10 : tie.Need-returns-10
-returns-10 c = c .judge10 .ensures ∙ read-by (c .before .before .before .before .args .word) 9 (c .before .before .before .code-in .ensures) (c .before .before .match .keys10) (c .before .form-in2 .ensures) refl
+returns-10 c = c .judge10 .ensures ∙ read-by (c .before .before .before .before .args .word) 9 (c .before .before .before .code-in .ensures) (c .before .before .match .keys10) (c .before .before .before .before .pre .1) (c .before .form-in2 .ensures ∙ coarse-named _ (omega (arith, c .before .before .before .before .pre .0)) (c .before .before .before .before .pre .1)) refl
 
 returns-11 : tie.Need-returns-11
 returns-11 c = c .judge11 .ensures ∙ read-as (c .before .before .before .before .before .args .word) 10 (c .before .before .before .before .code-in .ensures) (c .before .before .before .match .keys11) (omega (arith, c .before .before .before .before .before .pre .0)) (c .before .before .before .before .before .pre .1) (λ z. omega arith) (λ z. omega arith) (c .before .form3 .ensures ∙ ap (λ f. bodyForm 0 (Modulator f)) (c .before .before .spelled-by8 .ensures)) (ap Modulator (c .before .before .spelled-by8 .ensures))
@@ -137,7 +138,7 @@ returns-13 c =
     let e = c .before .before .before .before .code-in .ensures in
     let l = past 12 (c .before .before .before .match .rest) in
     let h = c .before .before .before .before .before .pre .0 in
-    c .judge13 .ensures ∙ read-by (c .before .before .before .before .before .args .word) 12 e (omega (arith, e, l, h)) (c .before .before .form-in3 .ensures) (ap Prefetch (c .before .spelled-by9 .ensures))
+    c .judge13 .ensures ∙ read-by (c .before .before .before .before .before .args .word) 12 e (omega (arith, e, l, h)) (c .before .before .before .before .before .pre .1) (c .before .before .form-in3 .ensures ∙ coarse-named _ (omega (arith, c .before .before .before .before .before .pre .0)) (c .before .before .before .before .before .pre .1)) (ap Prefetch (c .before .spelled-by9 .ensures))
 
 pub read-named-spec : {M : Type 1} → statement M
 read-named-spec =

@@ -1,5 +1,6 @@
 -- A play that passes, or any WAVEFORM.
 use mathlib.Core.Path.{sym}
+use Rattle.reader.proofs.Coarse.{coarse-none}
 use borrow.Author.Needs.{needs}
 use Rattle.reader.proofs.waveform_form.Statement.{statement}
 use Rattle.reader.proofs.waveform_form.Tie as tie
@@ -8,7 +9,7 @@ plays-well-requires : tie.Need-plays-well-requires
 plays-well-requires c κs = search needs
 
 returns : tie.Need-returns
-returns c = sym (c .before .plays-well .ensures (c .if1 .taken))
+returns c = sym (coarse-none (c .before .before .args .word) (c .before .plays-well .ensures (c .if1 .taken)))
 
 form-in-requires : tie.Need-form-in-requires
 form-in-requires c κs = search needs

@@ -4,7 +4,8 @@ use mathlib.Core.Path.{_≡_, sym, subst, _∙_}
 use native.Mathlib.Omega.{arith}
 use lib.ListN.{length}
 use Rattle.instruction.specs.Form.{numbered}
-use Rattle.verdict.specs.Check.{verdict, CheckIs, input, word, flow}
+use Rattle.verdict.specs.Check.{CheckIs, input, word, flow}
+use Rattle.verdict.specs.Flow.{verdict}
 use Rattle.verdict.proofs.Words.{input-good, targets, all-pass}
 use borrow.Author.Needs.{needs}
 use Rattle.verdict.proofs.check.Statement.{statement}

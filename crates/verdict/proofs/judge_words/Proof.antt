@@ -5,7 +5,8 @@ use native.Mathlib.Omega.{arith}
 use lib.ListN.{length}
 use Rattle.instruction.specs.declared.Refusal.{Refusal}
 use Rattle.verdict.specs.Words.{Passes}
-use Rattle.verdict.specs.Check.{verdict, WordsAre, passed, first}
+use Rattle.verdict.specs.Check.{WordsAre, passed, first}
+use Rattle.verdict.specs.Flow.{verdict}
 use Rattle.verdict.proofs.Words.{passes-more}
 use Rattle.verdict.proofs.judge_words.Statement.{statement}
 use Rattle.verdict.proofs.judge_words.Tie as tie

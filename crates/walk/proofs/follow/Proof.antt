@@ -1,6 +1,5 @@
 -- Each visit sets a bit, or a hint is taken.
 use Prim.Native.Nat.{_≤_}
-use mathlib.Core.Path.{_∙_}
 use native.Mathlib.Omega.{arith}
 use lib.ListN.{length}
 use Rattle.walk.specs.Loops.{Room, AtHand, Since, fresh, since, load}

@@ -1,5 +1,5 @@
 -- A new depth pays for the hints.
-use Prim.Native.Nat.{ℕ, _<_, _≤_, _-_, _^_}
+use Prim.Native.Nat.{_<_, _≤_, _-_, _^_}
 use mathlib.Core.Path.{refl, sym, ap, _∙_}
 use native.Mathlib.Nat.{le-refl}
 use native.Mathlib.Omega.{arith}

@@ -1,6 +1,5 @@
 -- Every argument after the command is looked at once.
 use Prim.Native.Nat.{_-_, _<_}
-use native.Mathlib.Omega.{arith}
 use borrow.Author.Needs.{needs}
 use Rattle.aps2.proofs.several.check.Statement.{statement}
 use Rattle.aps2.proofs.several.check.Tie as tie

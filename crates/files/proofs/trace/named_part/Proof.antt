@@ -1,7 +1,6 @@
 -- One byte after the other, within the name's buffer.
 use borrow.Author.Needs.{needs}
 use lib.ListN.{length}
-use native.Mathlib.Omega.{arith}
 use Prim.Native.Nat.{_-_}
 use mathlib.Core.Path.{_≡_, refl}
 use Rattle.files.proofs.trace.named_part.Statement.{statement}

@@ -1,5 +1,4 @@
 -- The letters of a name, up to the space behind it.
-use native.Mathlib.Omega.{arith}
 use Prim.Native.Nat.{_-_}
 use lib.ListN.{length}
 use borrow.Author.Needs.{needs}

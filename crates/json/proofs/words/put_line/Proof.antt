@@ -1,5 +1,4 @@
 -- One byte of the line after the other.
-use native.Mathlib.Omega.{arith}
 use Prim.Native.Nat.{_-_}
 use lib.ListN.{length}
 use borrow.Author.Needs.{needs}
