@@ -23,7 +23,7 @@ use Rattle.instruction.specs.declared.Body.the-variants.{Waveform, Marker, Wait
 use Rattle.reader.specs.Reading.{formIn, highestStray, refusedWith, readingOf}
 use Rattle.reader.specs.declared.Reading.{Reading}
 use Rattle.reader.proofs.Laws.{reads-noop, reads, refuses}
-use Rattle.reader.proofs.Below.{none-below}
+use Rattle.reader.proofs.Below.{both, none-below}
 use Rattle.reader.proofs.Masks.{code-small}
 use Rattle.reader.proofs.Strays.{stray-inside}
 use Rattle.reader.proofs.Coarse.{form-small}
@@ -46,10 +46,6 @@ Small (v ∷ vs) = (v < 2 ^ widest) × Small vs
 abbrev narrow : List Field → Bool
 narrow [] = true
 narrow (f ∷ fs) = leb (f .width) widest && narrow fs
-
-both : (a b : Bool) → (a && b) ≡ true → (a ≡ true) × (b ≡ true)
-both true b e = (refl, e)
-both false b e = (e, cc)
 
 held-small : (w : ℕ) (f : Field) → leb (f .width) widest ≡ true → held w f < 2 ^ widest
 held-small w f e = lt-of-lt-of-le (mod-lt (w / 2 ^ f .low) (pow-pos (f .width))) (pow-mono {j = 32} (leb-true (f .width) widest e))

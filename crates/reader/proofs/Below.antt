@@ -1,12 +1,16 @@
--- What holds of some number below n, and the highest that passes a test.
+-- What holds of two tests, of some number below n, and of the highest that passes a test.
 -- Assumes nothing.
 use mathlib.Core.Path.{_≡_, refl, sym, ap, _∙_}
-use mathlib.Core.Bool.{Bool, true, false, _||_, true≢false}
+use mathlib.Core.Bool.{Bool, true, false, _||_, _&&_, true≢false}
 use Prim.Native.Nat.{ℕ, zero, suc, _<_, _≤_}
 use native.Mathlib.Omega.{arith}
 use native.Mathlib.Decide.{ℕ-discrete, decLt}
 use Rattle.instruction.specs.Bits.{pick}
 use Rattle.reader.specs.Reading.{someBelow, highestBelow}
+
+pub both : (a b : Bool) → (a && b) ≡ true → (a ≡ true) × (b ≡ true)
+both true b e = (refl, e)
+both false b e = (e, cc)
 
 either : (a b : Bool) → (a || b) ≡ false → (a ≡ false) × (b ≡ false)
 either true b e = (e, cc)

@@ -20,6 +20,7 @@ use Rattle.instruction.proofs.Laws.{form-at}
 use Rattle.reader.specs.Masks.{hasUnnamed}
 use Rattle.reader.specs.Reading.{notItsOp, kindOf, formIn, highestStray, refusedWith, instructionIn, judged, readingOf, refusalOf, numberOf}
 use Rattle.reader.specs.declared.Reading.the-variants.{Accepted, Refused}
+use Rattle.reader.proofs.Below.{both}
 use Rattle.reader.proofs.Strays.{kind-told, none-told, kind-tells, stray-none}
 
 pub reads-noop : (w : ℕ) → w ≡ noopWord → readingOf w ≡ Accepted noop
@@ -72,10 +73,6 @@ with-named w n u =
 not-a-wait : (w : ℕ) → (codeIn w ≡ 2 → ⊥) → (codeIn w ≡ 9 → ⊥) → notItsOp w ≡ false
 unfolding notItsOp
 not-a-wait w h k = rw (ne-eqb _ _ h, ne-eqb _ _ k)
-
-both : (a b : Bool) → (a && b) ≡ true → (a ≡ true) × (b ≡ true)
-both true b e = (refl, e)
-both false b e = (e, cc)
 
 long-play : (write : ℕ) (f : WaveformFields) → f .op ≡ 0 → 2 ≤ f .count .0 → bodyForm write (Waveform f) ≡ 0
 long-play write f e l = rw (e, le-ltb _ _ l)

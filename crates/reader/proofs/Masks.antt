@@ -146,12 +146,12 @@ unnamed-by-mask w small = by-test w small (eqb (bitAnd w (maskIn w)) w) (hasUnna
 
 -- ---- the highest bit that is not named, by what the mask does not leave
 
+low-le : (x y : ℕ) → min x y ≤ x
+low-le x y = omega arith
+
 -- what a mask takes away, halved, is what half the mask takes away of half the word
 half-left : (w m : ℕ) → (w - bitAnd w m) / 2 ≡ w / 2 - bitAnd (w / 2) (m / 2)
 half-left w m = let s = and-step w m in let l = and-le-l (w / 2) (m / 2) in let b = low-le (w % 2) (m % 2) in omega (arith, s, l, b)
-  where
-    low-le : (x y : ℕ) → min x y ≤ x
-    low-le x y = omega arith
 
 shr-left : (k w m : ℕ) → (w - bitAnd w m) / 2 ^ k ≡ w / 2 ^ k - bitAnd (w / 2 ^ k) (m / 2 ^ k)
 shr-left zero w m = div-one (w - bitAnd w m) ∙ ap₂ (λ (x y : ℕ). x - bitAnd x y) (sym (div-one w)) (sym (div-one m))
@@ -162,9 +162,6 @@ shr-left (suc k) w m =
 -- a bit of what is left over is set where the word has it and the mask has not
 low-left : (x y : ℕ) → (x - bitAnd x y) % 2 ≡ x % 2 - min (x % 2) (y % 2)
 low-left x y = let s = and-step x y in let l = and-le-l (x / 2) (y / 2) in let b = low-le (x % 2) (y % 2) in omega (arith, s, l, b)
-  where
-    low-le : (x y : ℕ) → min x y ≤ x
-    low-le x y = omega arith
 
 set-left : (w m k : ℕ) → isSet k (w - bitAnd w m) ≡ (isSet k w && not (isSet k m))
 set-left w m k =

@@ -15,11 +15,7 @@ use Rattle.instruction.specs.Word.{codeIn}
 use Rattle.instruction.specs.declared.Field.{Field}
 use Rattle.reader.specs.Masks.{hasUnnamed}
 use Rattle.reader.specs.Reading.{isNamed, isStray, isAbove, kindOf, hasKind, highestStray}
-use Rattle.reader.proofs.Below.{Highest, all-below, none-below, one-below, highest-is, highest-below, highest-none}
-
-both : (a b : Bool) → (a && b) ≡ true → (a ≡ true) × (b ≡ true)
-both true b e = (refl, e)
-both false b e = (e, cc)
+use Rattle.reader.proofs.Below.{Highest, both, all-below, none-below, one-below, highest-is, highest-below, highest-none}
 
 -- ---- kinds do not rise with the bit
 

@@ -32,6 +32,11 @@ sub-stray c = and-le-l (c .before .before .args .word) (c .named-bits .result)
 returns : tie.Need-returns
 returns c = sym (no-top (c .before .before .before .args .word) (sym (left (c .before)) ∙ c .if1 .taken))
 
+returns-2 : tie.Need-returns-2
+returns-2 c =
+    let w = c .before .before .before .args .word in
+    top-bit w (w - bitAnd w (c .before .named-bits .result)) (search needs) (left (c .before)) (c .if1 .left)
+
 cast-above : tie.Need-cast-above
 cast-above c = record { fits = let l = leading-le 64 (c .before .before .before .args .word - bitAnd (c .before .before .before .args .word) (c .before .named-bits .result)) in omega (arith, l) }
 
@@ -43,11 +48,6 @@ sub-result-2 c =
     let w = c .before .before .before .args .word in
     let small : w < 2 ^ 64 = search needs in
     zeros-few (w - bitAnd w (c .before .named-bits .result)) (c .if1 .left) (omega (arith, small))
-
-returns-2 : tie.Need-returns-2
-returns-2 c =
-    let w = c .before .before .before .args .word in
-    top-bit w (w - bitAnd w (c .before .named-bits .result)) (search needs) (left (c .before)) (c .if1 .left)
 
 pub highest-stray-spec : {M : Type 1} → statement M
 highest-stray-spec =
