@@ -27,7 +27,7 @@ static double now(void)
 
 /* What both are given, and what each gives back; `lent` is the marks, the trace or the words read, and `room` says how much
    of it is lent. Both stand at the start of a page, so that neither is slowed by where the linker put it. */
-static uint64_t words[WORDS];
+static uint64_t words[WORDS], firmware;
 static uint8_t raw[8 * LISTED], text[HEADER + LINE * WORDS];
 static size_t n, room, text_len;
 struct answer {
@@ -38,25 +38,25 @@ static struct answer ours, theirs;
 static void our_reading(void)
 {
     for (size_t a = 0; a < n; a++)
-        ours.number += aps2_read(words[a], ours.fields, ours.bit);
+        ours.number += aps2_read(words[a], firmware, ours.fields, ours.bit);
 }
 
 static void their_reading(void)
 {
     for (size_t a = 0; a < n; a++)
-        theirs.number += second_read(words[a], theirs.fields, theirs.bit);
+        theirs.number += second_read(words[a], firmware, theirs.fields, theirs.bit);
 }
 
-static void our_check(void) { ours.number = aps2_check(words, n, WAVE, ours.lent, room, ours.place); }
-static void their_check(void) { theirs.number = second_check(words, n, WAVE, theirs.lent, room, theirs.place); }
-static void our_run(void) { ours.number = aps2_run(words, n, WAVE, NULL, 0, 0, ours.lent, room, STEPS, ours.answer); }
-static void their_run(void) { theirs.number = second_run(words, n, WAVE, NULL, 0, 0, theirs.lent, room, STEPS, theirs.answer); }
+static void our_check(void) { ours.number = aps2_check(words, n, WAVE, firmware, ours.lent, room, ours.place); }
+static void their_check(void) { theirs.number = second_check(words, n, WAVE, firmware, theirs.lent, room, theirs.place); }
+static void our_run(void) { ours.number = aps2_run(words, n, WAVE, firmware, NULL, 0, 0, ours.lent, room, STEPS, ours.answer); }
+static void their_run(void) { theirs.number = second_run(words, n, WAVE, firmware, NULL, 0, 0, theirs.lent, room, STEPS, theirs.answer); }
 
-static void our_listing(void) { ours.number = aps2_listing(raw, 8 * n, (uint8_t *)ours.lent, 8 * room); }
-static void their_listing(void) { theirs.number = second_listing(raw, 8 * n, (uint8_t *)theirs.lent, 8 * room); }
+static void our_listing(void) { ours.number = aps2_listing(raw, 8 * n, firmware, (uint8_t *)ours.lent, 8 * room); }
+static void their_listing(void) { theirs.number = second_listing(raw, 8 * n, firmware, (uint8_t *)theirs.lent, 8 * room); }
 
-static void our_read_listing(void) { ours.number = aps2_read_listing(text, text_len, ours.lent, room, ours.told); }
-static void their_read_listing(void) { theirs.number = second_read_listing(text, text_len, theirs.lent, room, theirs.told); }
+static void our_read_listing(void) { ours.number = aps2_read_listing(text, text_len, firmware, ours.lent, room, ours.told); }
+static void their_read_listing(void) { theirs.number = second_read_listing(text, text_len, firmware, theirs.lent, room, theirs.told); }
 
 /* Plays, and a GOTO back to the first. */
 static void straight(void)
@@ -99,7 +99,7 @@ static void text_mixed(void)
     mixed();
     text_len = put_header(text);
     for (size_t a = 0; a < n; a++)
-        text_len += put_line(text + text_len, a, second_read(words[a], fields, bit) ? PLAY : words[a]);
+        text_len += put_line(text + text_len, a, second_read(words[a], firmware, fields, bit) ? PLAY : words[a], firmware);
 }
 
 /* From the last address down to the first, one GOTO after another. */
@@ -142,25 +142,42 @@ static void tight(void)
     words[2] = GOTO(0);
 }
 
-/* A line of the table: who works, on what, with how much lent, and the number of words or steps that share the time. A line with
-   `fewer` does the work of the line before it on fewer words, and shows how the time grows. */
+/* Marker plays with the greatest count that older firmware takes, for each marker engine in turn. */
+static void markers(void)
+{
+    straight();
+    for (size_t a = 0; a + 1 < n; a++)
+        words[a] = OP(1, (uint64_t)(a % 4) << 58 | HIGH | (WIDE - 1));
+}
+
+/* The same, every second word one for the modulator: modulate, and update frame. */
+static void modulated(void)
+{
+    markers();
+    for (size_t a = 1; a + 1 < n; a += 2)
+        words[a] = OP(10, HIGH | UINT64_C(1) << 40 | (a % 4 == 1 ? 2 : UINT64_C(7) << 45));
+}
+
+/* A line of the table: who works, on what, with how much lent, the number of words or steps that share the time, and the firmware. A line
+   with `fewer` does the work of the line before it on fewer words, and shows how the time grows. */
 struct line {
     const char *name;
     void (*ours)(void), (*theirs)(void), (*fill)(void);
     size_t n, room;
     double count;
     int fewer;
+    uint64_t firmware;
     double our_best, their_best;
 };
 
-#define READ(family, fill) { "read " family, our_reading, their_reading, fill, WORDS, 0, WORDS, 0, 1e18, 1e18 }
+#define READ(family, fill) { "read " family, our_reading, their_reading, fill, WORDS, 0, WORDS, 0, 0, 1e18, 1e18 }
 #define CHECK(family, fill) \
-    { "check " family, our_check, their_check, fill, WORDS, WORDS, WORDS, 0, 1e18, 1e18 }, \
-    { "check-growth " family, our_check, their_check, fill, FEWER, FEWER, FEWER, 1, 1e18, 1e18 }
-#define RUN(family, fill, n) { "run " family, our_run, their_run, fill, n, STEPS, STEPS, 0, 1e18, 1e18 }
+    { "check " family, our_check, their_check, fill, WORDS, WORDS, WORDS, 0, 0, 1e18, 1e18 }, \
+    { "check-growth " family, our_check, their_check, fill, FEWER, FEWER, FEWER, 1, 0, 1e18, 1e18 }
+#define RUN(family, fill, n, firmware) { "run " family, our_run, their_run, fill, n, STEPS, STEPS, 0, firmware, 1e18, 1e18 }
 
-#define LIST(family, fill) { "listing " family, our_listing, their_listing, fill, LISTED, 8 * LISTED, LISTED, 0, 1e18, 1e18 }
-#define READ_LISTING(name, n, fewer) { name, our_read_listing, their_read_listing, text_mixed, n, n, n, fewer, 1e18, 1e18 }
+#define LIST(family, fill) { "listing " family, our_listing, their_listing, fill, LISTED, 8 * LISTED, LISTED, 0, 0, 1e18, 1e18 }
+#define READ_LISTING(name, n, fewer) { name, our_read_listing, their_read_listing, text_mixed, n, n, n, fewer, 0, 1e18, 1e18 }
 
 static struct line lines[] = {
     READ("plays", straight),
@@ -169,9 +186,11 @@ static struct line lines[] = {
     CHECK("backward", backward),
     CHECK("nests", nests),
     CHECK("everything", everything),
-    RUN("plays", straight, WORDS),
-    RUN("tight", tight, 3),
-    RUN("calls", nests, 2 * NEST + 2),
+    RUN("plays", straight, WORDS, 0),
+    RUN("tight", tight, 3, 0),
+    RUN("calls", nests, 2 * NEST + 2, 0),
+    RUN("modulated", modulated, WORDS, 0),
+    RUN("markers-older", markers, WORDS, 1),
     LIST("plays", listed_plays),
     LIST("mixed", listed_mixed),
     READ_LISTING("read-listing mixed 2048", LISTED, 0),
@@ -219,6 +238,7 @@ static void measure(struct line *l)
 {
     n = l->n;
     room = l->room;
+    firmware = l->firmware;
     l->fill();
     for (int k = 0; k < TIMES; k++) {
         double a = once(&ours, l->ours), b = once(&theirs, l->theirs);

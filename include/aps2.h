@@ -17,43 +17,46 @@ extern "C" {
    SYNC: none), and zeros after. All functions but the listing return a number of docs/NUMBERS.md; 0 is good.
    A bit of a word that is set and that its op code does not name is 111 (header bit 57), 112 (a payload bit above the highest field) or
    113 (one between fields or below them). The highest such bit is told beside these numbers, and may be bit 0; beside all others, and
-   beside 0, the bit is 0. */
+   beside 0, the bit is 0.
+   firmware: that of the modules, 0 for the current kind and anything else for the older (2.5 to 2.33), which takes 20 bits of a marker
+   count. A MARKER play with more is 24 for the older kind, tested after the other form numbers; nothing else differs between the two. */
 
-/* Reads a word. Returns 0 and sets the fields, or returns the form number, 10, 111 to 113 or 12 to 19, and sets them to zero. bit: the
+/* Reads a word. Returns 0 and sets the fields, or returns the form number, 10, 111 to 113, 12 to 19 or 24, and sets them to zero. bit: the
    bit beside the number. */
-uint64_t aps2_read(uint64_t word, uint64_t fields[8], uint64_t bit[1]);
+uint64_t aps2_read(uint64_t word, uint64_t firmware, uint64_t fields[8], uint64_t bit[1]);
 
-/* Writes an instruction. Returns 0 and sets the word, or returns 23, 10 or 13 to 19 and sets it to zero: 10 for a
+/* Writes an instruction. Returns 0 and sets the word, or returns 23, 10, 13 to 19 or 24 and sets it to zero: 10 for a
    code that is none, 23, tested first, for a field too wide or anything but zero past the fields that its name has. */
-uint64_t aps2_write(const uint64_t fields[8], uint64_t word[1]);
+uint64_t aps2_write(const uint64_t fields[8], uint64_t firmware, uint64_t word[1]);
 
 /* Checks a sequence: n words, a waveform memory of `wave` quad-samples. Returns 0 at place 0 where it is accepted, 1 to 4 at
-   place 0 for refused input, a word's number, 10, 111 to 113 or 12 to 22, at its address, or the fault of flow with the lowest
+   place 0 for refused input, a word's number, 10, 111 to 113, 12 to 22 or 24, at its address, or the fault of flow with the lowest
    address, 30 to 32. place: 0 the place, 1 the bit beside the number.
    The marks, at least n, are written once all words pass: bit 2d + c of mark a says that address a is reached at depth d, with
    a condition held (c is 1) or not. What is past n is left as it was. */
-uint64_t aps2_check(const uint64_t *words, size_t n, uint64_t wave, uint64_t *marks, size_t marks_len, uint64_t place[2]);
+uint64_t aps2_check(const uint64_t *words, size_t n, uint64_t wave, uint64_t firmware, uint64_t *marks, size_t marks_len,
+                    uint64_t place[2]);
 
 /* Runs a sequence without a module: n words, a waveform memory of `wave` quad-samples, messages, triggers, room for trace_len
    dispatched words, at most `budget` steps. Returns how it ended: 1, 2, 3 or 5 for refused input (zeros beside it, the trace
-   untouched), a number of the word it stopped at, 10, 111 to 113 or 12 to 22, a fault, 30 to 32, or 40 to 43. The trace then starts
+   untouched), a number of the word it stopped at, 10, 111 to 113, 12 to 22 or 24, a fault, 30 to 32, or 40 to 43. The trace then starts
    with what was dispatched, and the rest of it is untouched. answer: 0 end, 1 address, 2 steps, 3 messages used, 4 trace length,
    5-10 wait counts and 11-16 totals in quad-samples (waveform, markers 0 to 3, modulator), 17 repeat counter, 18 register,
    19 condition (0 none, 1 false, 2 true), 20 held, 21 depth, 22-37 stack addresses, 38-53 stack counters, 54 the bit
    beside the end. */
-uint64_t aps2_run(const uint64_t *words, size_t n, uint64_t wave, const uint8_t *messages, size_t messages_len,
+uint64_t aps2_run(const uint64_t *words, size_t n, uint64_t wave, uint64_t firmware, const uint8_t *messages, size_t messages_len,
                   uint32_t triggers, uint64_t *trace, size_t trace_len, uint64_t budget, uint64_t answer[55]);
 
 /* Lists raw words, eight bytes each, most significant first, at most 2,048: a header line, then a line for each word, parted by tabs
    and ended by line feeds. A word refused with 111 to 113 is listed as `BAD`, 11, that number and the bit, one refused with another as
    `BAD` and the number. Bytes that are no whole number of words, or too many, give one line, `refused` and 8 or 9. Returns the
    listing's length, and writes it to `out` where it fits; where it does not, nothing is written. */
-size_t aps2_listing(const uint8_t *bytes, size_t len, uint8_t *out, size_t out_len);
+size_t aps2_listing(const uint8_t *bytes, size_t len, uint64_t firmware, uint8_t *out, size_t out_len);
 
 /* Reads a listing back as words, as many as there is room for. Returns 0 and starts `words` with them, or returns the number of the first
-   bad line, 60 to 64 or the writer's 23 or 13 to 19, and leaves `words` as it was; what is past the words read is always left. told: 0 the
-   line, from 1, and 0 beside 0; 1 how many words, and 0 after a refusal. RETURN and LOAD_CMP come back with payload zero. */
-uint64_t aps2_read_listing(const uint8_t *text, size_t len, uint64_t *words, size_t words_len, uint64_t told[2]);
+   bad line, 60 to 64 or the writer's 23, 13 to 19 or 24, and leaves `words` as it was; what is past the words read is always left. told: 0
+   the line, from 1, and 0 beside 0; 1 how many words, and 0 after a refusal. RETURN and LOAD_CMP come back with payload zero. */
+uint64_t aps2_read_listing(const uint8_t *text, size_t len, uint64_t firmware, uint64_t *words, size_t words_len, uint64_t told[2]);
 
 #ifdef __cplusplus
 }

@@ -1,4 +1,4 @@
-/* The check: document 01, "Check" and H8, and document 02, request 2. The walk follows each address on from where its mark grew,
+/* The check: document 01, "Check" and H8, and document 02, requests 2 and 3. The walk follows each address on from where its mark grew,
    all depths of a mark at once, and keeps a list of the addresses still to be followed. */
 #include "word.h"
 
@@ -35,9 +35,9 @@ static int passes(const uint64_t *words, size_t n, size_t a)
 }
 
 /* Form, 20, 21, 22 of the word at a. */
-static uint64_t judge(const uint64_t *words, size_t n, uint64_t wave, size_t a)
+static uint64_t judge(const uint64_t *words, size_t n, uint64_t wave, uint64_t firmware, size_t a)
 {
-    uint64_t word = words[a], number = refusal(word, wave, n);
+    uint64_t word = words[a], number = refusal(word, firmware, wave, n);
     if (number)
         return number;
     return is_engine(word) && !GET(word, 56, 56) && !passes(words, n, a) ? 22 : 0;
@@ -133,14 +133,15 @@ static void walk(struct walk *w)
     }
 }
 
-uint64_t second_check(const uint64_t *words, size_t n, uint64_t wave, uint64_t *marks, size_t marks_len, uint64_t place[2])
+uint64_t second_check(const uint64_t *words, size_t n, uint64_t wave, uint64_t firmware, uint64_t *marks, size_t marks_len,
+                      uint64_t place[2])
 {
     place[0] = place[1] = 0;
     uint64_t number = n == 0 ? 1 : n > WORDS ? 2 : wave > WAVE ? 3 : marks_len < n ? 4 : 0;
     if (number)
         return number;
     for (size_t a = 0; a < n; a++) {
-        number = judge(words, n, wave, a);
+        number = judge(words, n, wave, firmware, a);
         if (number) {
             place[0] = a;
             return finer(number, &words[a], &place[1]);

@@ -1,4 +1,4 @@
-/* The listing: document 01, "The listing program", and document 02, request 2. It is laid out on a page that has room for the longest
+/* The listing: document 01, "The listing program", and document 02, requests 2 and 3. It is laid out on a page that has room for the longest
    one, and copied where it fits. Each function writes from a place on and gives back the place behind what it wrote. */
 #include "names.h"
 
@@ -31,9 +31,9 @@ static inline uint8_t *tabbed(uint8_t *to, uint64_t v)
     return number(to, v);
 }
 
-static uint8_t *line(uint8_t *to, uint64_t address, uint64_t word)
+static uint8_t *line(uint8_t *to, uint64_t address, uint64_t word, uint64_t firmware)
 {
-    uint64_t f[8], bit[1], refused = second_read(word, f, bit);
+    uint64_t f[8], bit[1], refused = second_read(word, firmware, f, bit);
     to = number(to, address);
     *to++ = '\t';
     if (refused >= 111) {
@@ -66,7 +66,7 @@ static uint64_t word_at(const uint8_t *b)
     return word;
 }
 
-size_t second_listing(const uint8_t *bytes, size_t len, uint8_t *out, size_t out_len)
+size_t second_listing(const uint8_t *bytes, size_t len, uint64_t firmware, uint8_t *out, size_t out_len)
 {
     uint8_t page[PAGE], *to = page;
     if (len % 8) {
@@ -76,7 +76,7 @@ size_t second_listing(const uint8_t *bytes, size_t len, uint8_t *out, size_t out
     } else {
         to = pair(to, "aps2-listing", 1);
         for (size_t a = 0; a < len / 8; a++)
-            to = line(to, a, word_at(bytes + 8 * a));
+            to = line(to, a, word_at(bytes + 8 * a), firmware);
     }
     size_t n = (size_t)(to - page);
     for (size_t i = 0; n <= out_len && i < n; i++)

@@ -1,4 +1,4 @@
-/* The listing read back: document 02, request 1. All lines are judged before the first word is written.
+/* The listing read back: document 02, requests 1 and 3. All lines are judged before the first word is written.
    Each function reads from a place on and gives back the place behind what it read, or NULL where that does not stand there. */
 #include "names.h"
 
@@ -82,7 +82,7 @@ static inline const uint8_t *fields_of(const uint8_t *at, const uint8_t *end, in
 }
 
 /* The line at *start: its word, and *start moved behind it, or the number that refuses it; whether there is room is not asked here. */
-static uint64_t line(const uint8_t **start, const uint8_t *end, uint64_t address, uint64_t word[1])
+static uint64_t line(const uint8_t **start, const uint8_t *end, uint64_t address, uint64_t firmware, uint64_t word[1])
 {
     uint64_t f[8] = { 0 }, found;
     const uint8_t *at = decimal(*start, end, &found);
@@ -104,10 +104,10 @@ static uint64_t line(const uint8_t **start, const uint8_t *end, uint64_t address
     if (code == NONE)
         return 63;
     *start = at;
-    return second_write(f, word);
+    return second_write(f, firmware, word);
 }
 
-uint64_t second_read_listing(const uint8_t *text, size_t len, uint64_t *words, size_t words_len, uint64_t told[2])
+uint64_t second_read_listing(const uint8_t *text, size_t len, uint64_t firmware, uint64_t *words, size_t words_len, uint64_t told[2])
 {
     const uint8_t *end = text + len, *first = text, *at;
     uint64_t word[1], number = 0;
@@ -118,7 +118,7 @@ uint64_t second_read_listing(const uint8_t *text, size_t len, uint64_t *words, s
         if (!(first = byte(first, end, (uint8_t)*header)))
             return 60;
     for (at = first; at < end; n++) {
-        number = line(&at, end, n, word);
+        number = line(&at, end, n, firmware, word);
         if (!number && n == words_len)
             number = 64;
         if (number) {
@@ -128,7 +128,7 @@ uint64_t second_read_listing(const uint8_t *text, size_t len, uint64_t *words, s
     }
     at = first;
     for (size_t a = 0; a < n; a++)
-        line(&at, end, a, &words[a]);
+        line(&at, end, a, firmware, &words[a]);
     told[0] = 0;
     told[1] = n;
     return 0;

@@ -1,4 +1,4 @@
-/* The run: document 01, "One step", and document 02, request 2, in place on one state.
+/* The run: document 01, "One step", and document 02, requests 2 and 3, in place on one state.
    The single numbers of the state stand apart from its lists, so that they can stay in registers. */
 #include "word.h"
 
@@ -7,7 +7,7 @@ enum { WORDS = 65536, WAVE = 16777216, BUDGET = 1000000, STACK = 16, GROUP = 8, 
 struct input {
     const uint64_t *words;
     size_t n, messages_len, room;
-    uint64_t wave;
+    uint64_t wave, firmware;
     const uint8_t *messages;
     uint32_t triggers;
     uint64_t *trace;
@@ -177,7 +177,7 @@ static uint64_t step(struct state *s, struct lists *l, const struct input *in)
 {
     if (s->address >= in->n)
         return 30;
-    uint64_t word = in->words[s->address], number = refusal(word, in->wave, in->n);
+    uint64_t word = in->words[s->address], number = refusal(word, in->firmware, in->wave, in->n);
     if (number)
         return number;
     return breaks_group(s->held, word) ? 22 : act(s, l, in, word);
@@ -194,10 +194,10 @@ static void tell(uint64_t end, const struct state *s, const struct lists *l, uin
         answer[22 + i] = l->back[i], answer[38 + i] = l->counters[i];
 }
 
-uint64_t second_run(const uint64_t *words, size_t n, uint64_t wave, const uint8_t *messages, size_t messages_len, uint32_t triggers,
-                    uint64_t *trace, size_t room, uint64_t budget, uint64_t answer[55])
+uint64_t second_run(const uint64_t *words, size_t n, uint64_t wave, uint64_t firmware, const uint8_t *messages, size_t messages_len,
+                    uint32_t triggers, uint64_t *trace, size_t room, uint64_t budget, uint64_t answer[55])
 {
-    const struct input in = { words, n, messages_len, room, wave, messages, triggers, trace };
+    const struct input in = { words, n, messages_len, room, wave, firmware, messages, triggers, trace };
     struct state s = { 0 };
     struct lists l = { { 0 }, { 0 }, { 0 }, { 0 } };
     uint64_t end = n == 0 ? 1 : n > WORDS ? 2 : wave > WAVE ? 3 : budget > BUDGET ? 5 : 0;

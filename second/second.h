@@ -7,16 +7,17 @@
 #include <stddef.h>
 #include <stdint.h>
 
-uint64_t second_read(uint64_t word, uint64_t fields[8], uint64_t bit[1]);
-uint64_t second_write(const uint64_t fields[8], uint64_t word[1]);
-uint64_t second_check(const uint64_t *words, size_t n, uint64_t wave, uint64_t *marks, size_t marks_len, uint64_t place[2]);
+uint64_t second_read(uint64_t word, uint64_t firmware, uint64_t fields[8], uint64_t bit[1]);
+uint64_t second_write(const uint64_t fields[8], uint64_t firmware, uint64_t word[1]);
+uint64_t second_check(const uint64_t *words, size_t n, uint64_t wave, uint64_t firmware, uint64_t *marks, size_t marks_len,
+                      uint64_t place[2]);
 
 /* Flow alone, of words that pass: the fault with the lowest address and its place, or 0 at 0, and the marks; for small n. */
 uint64_t second_places(const uint64_t *words, size_t n, uint64_t *marks, uint64_t place[1]);
 
-uint64_t second_run(const uint64_t *words, size_t n, uint64_t wave, const uint8_t *messages, size_t messages_len, uint32_t triggers,
-                    uint64_t *trace, size_t room, uint64_t budget, uint64_t answer[55]);
-size_t second_listing(const uint8_t *bytes, size_t len, uint8_t *out, size_t out_len);
-uint64_t second_read_listing(const uint8_t *text, size_t len, uint64_t *words, size_t words_len, uint64_t told[2]);
+uint64_t second_run(const uint64_t *words, size_t n, uint64_t wave, uint64_t firmware, const uint8_t *messages, size_t messages_len,
+                    uint32_t triggers, uint64_t *trace, size_t room, uint64_t budget, uint64_t answer[55]);
+size_t second_listing(const uint8_t *bytes, size_t len, uint64_t firmware, uint8_t *out, size_t out_len);
+uint64_t second_read_listing(const uint8_t *text, size_t len, uint64_t firmware, uint64_t *words, size_t words_len, uint64_t told[2]);
 
 #endif

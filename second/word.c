@@ -1,4 +1,4 @@
-/* Reading and writing one word: document 01, "The word" and the form numbers, and document 02, request 2. */
+/* Reading and writing one word: document 01, "The word" and the form numbers, and document 02, requests 2 and 3. */
 #include "word.h"
 
 /* The table: how many fields a row has, and each field's high and low bit. WAIT and SYNC have their op as row,
@@ -30,7 +30,7 @@ static void clear(uint64_t fields[8])
         fields[i] = 0;
 }
 
-uint64_t second_read(uint64_t word, uint64_t fields[8], uint64_t bit[1])
+uint64_t second_read(uint64_t word, uint64_t firmware, uint64_t fields[8], uint64_t bit[1])
 {
     clear(fields);
     bit[0] = 0;
@@ -38,7 +38,7 @@ uint64_t second_read(uint64_t word, uint64_t fields[8], uint64_t bit[1])
         fields[0] = NOOP;
         return 0;
     }
-    uint64_t number = take_apart(word, fields + 3);
+    uint64_t number = take_apart(word, firmware, fields + 3);
     if (number) {
         clear(fields);
         return finer(number, &word, bit);
@@ -49,14 +49,14 @@ uint64_t second_read(uint64_t word, uint64_t fields[8], uint64_t bit[1])
     return 0;
 }
 
-/* 13 to 19, or 0, of an instruction asked for; f is the row's fields. */
-static uint64_t form(uint64_t code, uint64_t write, const uint64_t *f)
+/* 13 to 19, 24, or 0, of an instruction asked for; f is the row's fields. */
+static uint64_t form(uint64_t code, uint64_t write, const uint64_t *f, uint64_t firmware)
 {
     switch (code) {
     case WAVEFORM:
         return waveform_form(f[0], f[1], f[2], f[3]);
     case MARKER:
-        return marker_form(f[0], f[1], f[2], f[3]);
+        return marker_form(f[0], f[1], f[2], f[3], firmware);
     case WAIT:
     case SYNC:
         return write ? 0 : 13;
@@ -82,7 +82,7 @@ static int fits(const uint64_t fields[8])
     return 1;
 }
 
-uint64_t second_write(const uint64_t fields[8], uint64_t word[1])
+uint64_t second_write(const uint64_t fields[8], uint64_t firmware, uint64_t word[1])
 {
     uint64_t code = fields[0];
     word[0] = 0;
@@ -94,7 +94,7 @@ uint64_t second_write(const uint64_t fields[8], uint64_t word[1])
     }
     if (code > PREFETCH)
         return 10;
-    uint64_t number = form(code, fields[2], fields + 3);
+    uint64_t number = form(code, fields[2], fields + 3, firmware);
     if (number)
         return number;
     word[0] = code << 60 | fields[1] << 58 | fields[2] << 56;

@@ -1,5 +1,5 @@
-/* One word taken apart: document 01's table and form numbers, with those of document 02, request 2, for reading, writing, check and run
-   alike. */
+/* One word taken apart: document 01's table and form numbers, with those of document 02, requests 2 and 3, for reading, writing, check and
+   run alike. */
 #ifndef SECOND_WORD_H
 #define SECOND_WORD_H
 
@@ -12,6 +12,7 @@
 
 enum { WAVEFORM, MARKER, WAIT, LOAD_REPEAT, REPEAT, CMP, GOTO, CALL, RETURN, SYNC, MODULATOR, LOAD_CMP, PREFETCH, NOOP = 15 };
 enum { UNNAMED = 11 }; /* what request 2 of document 02 splits */
+enum { OLDER_COUNT = 20 }; /* the bits of a marker count that older firmware takes: request 3 */
 
 #define HEADER (MASK(63, 60) | MASK(59, 58) | MASK(56, 56))
 #define PAYLOAD_OP MASK(47, 46)
@@ -66,11 +67,11 @@ static inline uint64_t waveform_form(uint64_t op, uint64_t ta, uint64_t count, u
     }
 }
 
-static inline uint64_t marker_form(uint64_t op, uint64_t transition, uint64_t state, uint64_t count)
+static inline uint64_t marker_form(uint64_t op, uint64_t transition, uint64_t state, uint64_t count, uint64_t firmware)
 {
     switch (op) {
     case 0:
-        return count < 2 ? 16 : 0;
+        return count < 2 ? 16 : firmware && count >> OLDER_COUNT ? 24 : 0;
     case 3:
         return 14;
     default:
@@ -95,8 +96,8 @@ static inline uint64_t modulator_form(uint64_t op, uint64_t nco, uint64_t payloa
     }
 }
 
-/* The form number of a word that is not NOOP, 10 to 19 or 0; f, zeros before, gets the fields of its row that mean something. */
-static inline uint64_t take_apart(uint64_t word, uint64_t f[4])
+/* The form number of a word that is not NOOP, 10 to 19, 24 or 0; f, zeros before, gets the fields of its row that mean something. */
+static inline uint64_t take_apart(uint64_t word, uint64_t firmware, uint64_t f[4])
 {
     uint64_t code = GET(word, 63, 60), op = GET(word, 47, 46);
     if (code > PREFETCH)
@@ -109,7 +110,7 @@ static inline uint64_t take_apart(uint64_t word, uint64_t f[4])
         return waveform_form(f[0], f[1], f[2], f[3]);
     case MARKER:
         f[0] = op, f[1] = GET(word, 36, 33), f[2] = GET(word, 32, 32), f[3] = GET(word, 31, 0);
-        return marker_form(f[0], f[1], f[2], f[3]);
+        return marker_form(f[0], f[1], f[2], f[3], firmware);
     case MODULATOR:
         f[0] = GET(word, 47, 45), f[1] = GET(word, 43, 40), f[2] = GET(word, 31, 0);
         return modulator_form(f[0], f[1], f[2]);
@@ -148,12 +149,12 @@ static inline uint64_t placing(uint64_t code, const uint64_t f[4], uint64_t wave
 }
 
 /* Form, then 20 and 21, of any word. */
-static inline uint64_t refusal(uint64_t word, uint64_t wave, size_t n)
+static inline uint64_t refusal(uint64_t word, uint64_t firmware, uint64_t wave, size_t n)
 {
     uint64_t f[4] = { 0 }, number;
     if (word == ~UINT64_C(0))
         return 0;
-    number = take_apart(word, f);
+    number = take_apart(word, firmware, f);
     return number ? number : placing(GET(word, 63, 60), f, wave, n);
 }
 

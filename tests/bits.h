@@ -3,7 +3,7 @@
 #ifndef BITS_H
 #define BITS_H
 
-#include "sequences.h"
+#include "firmware.h"
 
 enum { CODES = 13, SPANS = 4 };
 
@@ -83,7 +83,7 @@ static inline uint64_t some_bits(uint64_t code)
     return bits;
 }
 
-/* A word of an op code that passes form. */
+/* A word of an op code that passes form for the current firmware. */
 static inline uint64_t good_of(uint64_t code)
 {
     uint64_t word = OP(code, engine_select() | below(2) << 56);
@@ -144,7 +144,8 @@ static inline void family_of_bits(const char *name)
     family_of(name, (const int[]){ 111, 112, 113, -1 });
 }
 
-/* Words that are refused with another number, where they stand in a sequence. The bits that are not named are clear. */
+/* Words that are refused with another number, where they stand in a sequence, 24 by older firmware alone. The bits that are not named
+   are clear. */
 struct refused {
     uint64_t word, number;
 };
@@ -164,16 +165,18 @@ static const struct refused refused[] = {
     { OP(10, HIGH | NCO(3) | 2), 18 }, { OP(10, HIGH | MODULATOR_OP(3) | NCO(4)), 18 },
     { OP(10, HIGH | MODULATOR_OP(3) | NCO(1) | UINT64_C(1) << 30), 19 }, { OP(10, HIGH | MODULATOR_OP(7) | NCO(3) | UINT64_C(1) << 31), 19 },
     { OP(0, HIGH | UINT64_C(2) << 24 | 16777215), 20 }, { OP(4, 67108863), 21 }, { OP(6, 67108863), 21 }, { OP(7, 67108863), 21 },
-    { OP(12, 67108736), 21 },
+    { OP(12, 67108736), 21 }, { OP(1, HIGH | WIDE), 24 }, { OP(1, HIGH | UINT64_C(0xFFFFFFFF)), 24 },
 };
 enum { REFUSED = sizeof refused / sizeof *refused };
 
-/* Each of these words, alone and with each unnamed bit of its op code, and words whose op code is none with each bit; what is told of
-   each. */
+/* Each of these words that the firmware refuses, alone and with each unnamed bit of its op code, and words whose op code is none with each
+   bit; what is told of each. */
 static inline void each_beside(void (*with)(uint64_t word, struct told t))
 {
     for (int k = 0; k < REFUSED; k++) {
         uint64_t word = refused[k].word, bits = unnamed_bits(word >> 60);
+        if (refused[k].number == 24 && !firmware)
+            continue;
         with(word, (struct told){ refused[k].number, 0 });
         for (int bit = 0; bit < 64; bit++)
             if (bits >> bit & 1)
@@ -185,7 +188,7 @@ static inline void each_beside(void (*with)(uint64_t word, struct told t))
 }
 
 /* The numbers that such a family must meet, of words alone and of words in a sequence. */
-static const int beside[] = { 10, 12, 13, 14, 15, 16, 17, 18, 19, 111, 112, 113, -1 };
-static const int beside_placed[] = { 10, 12, 13, 14, 15, 16, 17, 18, 19, 20, 21, 22, 111, 112, 113, -1 };
+static const int beside[] = { 10, 12, 13, 14, 15, 16, 17, 18, 19, 24, 111, 112, 113, -1 };
+static const int beside_placed[] = { 10, 12, 13, 14, 15, 16, 17, 18, 19, 20, 21, 22, 24, 111, 112, 113, -1 };
 
 #endif

@@ -1,6 +1,6 @@
-/* Checks, compared with the second program: the number, its place, its bit, and every mark, the tail included; flow also with the plain
-   walk over places. The document's cases, random sequences, all small ones, groups, nests to the stack's end, conditions before jumps,
-   unnamed bits, and the bounds of every input. A sequence that is accepted is then run, and must not fault. */
+/* Checks for either firmware, compared with the second program: the number, its place, its bit, and every mark, the tail included; flow also
+   with the plain walk over places. The document's cases, random sequences, all small ones, groups, nests to the stack's end, conditions
+   before jumps, unnamed bits, marker counts, and the bounds of every input. A sequence that is accepted is then run, and must not fault. */
 #include "../include/aps2.h"
 #include "../second/second.h"
 #include "bits.h"
@@ -8,8 +8,25 @@
 #define MOST 65540
 #define SMALL 64 /* words up to which flow is also compared with the plain walk over places */
 
+#define PLAY OP(0, HIGH | UINT64_C(2) << 24)
+#define LOW OP(0, UINT64_C(2) << 24)
+
 static uint64_t words[MOST], ours[MOST], theirs[MOST], our_place[2], their_place[2], trace[256], answer[55];
 static uint8_t messages[8] = { 0, 1, 2, 3, 0, 200, 1, 255 };
+
+static void show_case(size_t n, uint64_t wave, size_t room)
+{
+    printf("  n %llu, W %llu, firmware %llu, room %llu\n  words", (unsigned long long)n, (unsigned long long)wave, (unsigned long long)firmware,
+           (unsigned long long)room);
+    for (size_t i = 0; i < n && i < 40; i++)
+        printf(" %llx", (unsigned long long)words[i]);
+    printf("\n");
+}
+
+static void show_answer(const char *whose, uint64_t number, const uint64_t place[2])
+{
+    printf("  %s: %llu at %llu, bit %llu\n", whose, (unsigned long long)number, (unsigned long long)place[0], (unsigned long long)place[1]);
+}
 
 static uint64_t try_check(size_t n, uint64_t wave, size_t room)
 {
@@ -17,7 +34,8 @@ static uint64_t try_check(size_t n, uint64_t wave, size_t room)
         our_place[i] = random64(), their_place[i] = random64();
     for (size_t i = 0; i < room + 2; i++)
         ours[i] = theirs[i] = random64();
-    uint64_t number = aps2_check(words, n, wave, ours, room, our_place), other = second_check(words, n, wave, theirs, room, their_place);
+    uint64_t number = aps2_check(words, n, wave, firmware, ours, room, our_place);
+    uint64_t other = second_check(words, n, wave, firmware, theirs, room, their_place);
     int good = number == other && our_place[0] == their_place[0] && our_place[1] == their_place[1];
     good = good && tells_at(words, our_place[0], number, our_place[1]);
     for (size_t i = 0; i < room + 2; i++)
@@ -31,21 +49,18 @@ static uint64_t try_check(size_t n, uint64_t wave, size_t room)
     meet(number);
     if (!good && !failed) {
         failed = 1;
-        printf("  n %llu, W %llu, room %llu: %llu at %llu, bit %llu, second %llu at %llu, bit %llu\n  words", (unsigned long long)n,
-               (unsigned long long)wave, (unsigned long long)room, (unsigned long long)number, (unsigned long long)our_place[0],
-               (unsigned long long)our_place[1], (unsigned long long)other, (unsigned long long)their_place[0], (unsigned long long)their_place[1]);
-        for (size_t i = 0; i < n && i < 40; i++)
-            printf(" %llx", (unsigned long long)words[i]);
-        printf("\n");
+        show_case(n, wave, room);
+        show_answer("ours", number, our_place);
+        show_answer("second", other, their_place);
     }
     return number;
 }
 
-/* What check accepts never faults in a run. */
+/* What check accepts never faults in a run for the same firmware. */
 static void try_accepted(size_t n, uint64_t wave)
 {
     for (int k = 0; k < 4; k++) {
-        uint64_t end = aps2_run(words, n, wave, messages, below(9), (uint32_t)below(3), trace, below(257), below(400), answer);
+        uint64_t end = aps2_run(words, n, wave, firmware, messages, below(9), (uint32_t)below(3), trace, below(257), below(400), answer);
         if ((end < 40 || end > 43) && !failed) {
             failed = 1;
             printf("  accepted, and a run ended with %llu\n", (unsigned long long)end);
@@ -74,21 +89,23 @@ static const struct worked cases[] = {
     { 8, 9, 22, 0, { 0x0000000002000000, 0x0000000002000000, 0x0000000002000000, 0x0000000002000000,
                      0x0000000002000000, 0x0000000002000000, 0x0000000002000000, 0x0000000002000000 } },
 };
+enum { CASES = sizeof cases / sizeof *cases };
 
 static void worked(void)
 {
-    for (size_t k = 0; k < sizeof cases / sizeof *cases; k++) {
-        const struct worked *c = &cases[k];
+    for (size_t k = 0; k < 2 * CASES; k++) {
+        const struct worked *c = &cases[k % CASES];
         uint64_t place[2] = { 99, 99 };
+        firmware = k < CASES ? 0 : any_older();
         for (size_t i = 0; i < c->n; i++)
             words[i] = c->words[i];
         try_check(c->n, c->wave, c->n);
-        if ((aps2_check(words, c->n, c->wave, ours, c->n, place) != c->number || place[0] != c->place || place[1]) && !failed)
+        if ((aps2_check(words, c->n, c->wave, firmware, ours, c->n, place) != c->number || place[0] != c->place || place[1]) && !failed)
             failed = 1, printf("  case %llu is not as told\n", (unsigned long long)k);
     }
     if (try_check(65537, 0, 65537) != 2)
         failed = 1;
-    family_of("check: the cases of document 01", (const int[]){ 0, 2, 12, 16, 20, 22, 30, 31, 32, -1 });
+    family_of("check: the cases of document 01, for either firmware", (const int[]){ 0, 2, 12, 16, 20, 22, 30, 31, 32, -1 });
 }
 
 static void random_checks(void)
@@ -98,11 +115,12 @@ static void random_checks(void)
         size_t n = 1 + below(below(3) ? 24 : 6);
         uint64_t wave = below(9);
         any_sequence(words, n, wave);
+        firmware = any_firmware();
         if (try_check(n, wave, n + below(3)) == 0)
             try_accepted(n, wave), accepted++;
     }
     failed |= accepted < 1000;
-    family_of("check: random sequences, and runs of those that are accepted", (const int[]){ 0, 20, 21, 22, 30, 31, 32, -1 });
+    family_of("check: random sequences, and runs of those that are accepted", (const int[]){ 0, 20, 21, 22, 24, 30, 31, 32, -1 });
 }
 
 /* Every sequence of up to four words over a small alphabet. */
@@ -110,17 +128,19 @@ static void small_checks(void)
 {
     static const uint64_t alphabet[] = {
         OP(0, HIGH | UINT64_C(2) << 24), OP(0, UINT64_C(2) << 24), OP(4, 0), OP(4, 2), OP(5, 0), OP(6, 0), OP(6, 1), OP(6, 3), OP(7, 0), OP(7, 1),
-        OP(7, 2), OP(7, 3), OP(8, 0), ~UINT64_C(0),
+        OP(7, 2), OP(7, 3), OP(8, 0), ~UINT64_C(0), OP(1, HIGH | WIDE),
     };
     const int letters = sizeof alphabet / sizeof *alphabet;
     for (int n = 1; n <= 4; n++)
         for (int k = 0; k < (n > 1 ? letters : 1) * (n > 2 ? letters : 1) * (n > 3 ? letters : 1); k++)
             for (int first = 0; first < letters; first++) {
-                words[0] = alphabet[first], words[1] = alphabet[k % letters], words[2] = alphabet[k / letters % letters], words[3] = alphabet[k / letters / letters];
+                words[0] = alphabet[first], words[1] = alphabet[k % letters];
+                words[2] = alphabet[k / letters % letters], words[3] = alphabet[k / letters / letters];
+                firmware = any_firmware();
                 if (try_check((size_t)n, 2, (size_t)n) == 0)
                     try_accepted((size_t)n, 2);
             }
-    family_of("check: every sequence of up to four words over a small alphabet", (const int[]){ 0, 21, 22, 30, 31, 32, -1 });
+    family_of("check: every sequence of up to four words over a small alphabet", (const int[]){ 0, 21, 22, 24, 30, 31, 32, -1 });
 }
 
 static void groups(void)
@@ -129,14 +149,15 @@ static void groups(void)
         for (int after = 0; after < 16; after++)
             for (int damaged = 0; damaged < 12; damaged++) {
                 for (size_t i = 0; i < low; i++)
-                    words[i] = OP(below(2) ? 0 : 1, UINT64_C(2) << 24 | 2);
+                    words[i] = below(2) ? LOW : OP(1, marker_count(2));
                 words[low] = OP(after, after == 0 ? HIGH | UINT64_C(2) << 24 : after == 1 ? HIGH | 2 : after == 10 ? HIGH | UINT64_C(1) << 40 | 2 : 0);
                 words[low + 1] = OP(6, 0);
                 if (damaged)
                     words[below(low + 2)] ^= UINT64_C(1) << below(64);
+                firmware = any_firmware();
                 try_check(low + 2 - (damaged == 1), 8, low + 2);
             }
-    family_of("check: groups of up to ten low words, with every op code after them", (const int[]){ 0, 10, 22, 111, 112, 113, -1 });
+    family_of("check: groups of up to ten low words, with every op code after them", (const int[]){ 0, 10, 22, 24, 111, 112, 113, -1 });
 }
 
 /* Calls one deeper each, to the stack's end and one past it, with returns and conditions between. */
@@ -155,6 +176,7 @@ static void nests(void)
             words[n++] = OP(below(4) ? 8 : 6, 0);
             if (below(3) == 0)
                 words[1 + below(n - 1)] = any_word(1, n, 4);
+            firmware = any_firmware();
             if (try_check(n, 4, n) == 0)
                 try_accepted(n, 4);
         }
@@ -181,14 +203,12 @@ static void conditions(void)
                             words[n++] = between == 1 ? ~UINT64_C(0) : OP(4, target);
                         words[n++] = OP(jumps[j], jumps[j] == 8 ? 0 : target);
                         words[n++] = OP(below(2) ? 6 : 8, 0);
+                        firmware = any_firmware();
                         if (try_check(n, 0, n) == 0)
                             try_accepted(n, 0);
                     }
     family_of("check: conditions before each kind of jump", (const int[]){ 0, 30, 31, 32, -1 });
 }
-
-#define PLAY OP(0, HIGH | UINT64_C(2) << 24)
-#define LOW OP(0, UINT64_C(2) << 24)
 
 /* The words under test are checked, and what is told must be this. */
 static void expect(size_t n, size_t place, struct told t)
@@ -230,12 +250,14 @@ static void try_group(uint64_t word, struct told t)
 static void try_bits(uint64_t code, uint64_t bits)
 {
     uint64_t word = with_bits(GOOD, code, bits);
+    firmware = any_firmware();
     try_places(word, told_of(word));
 }
 
 static void try_bits_in_group(uint64_t code, uint64_t bits)
 {
     uint64_t word = with_bits(any_base(), code, bits);
+    firmware = any_firmware();
     try_group(word, told_of(word));
 }
 
@@ -245,9 +267,105 @@ static void unnamed(void)
     family_of_bits("check: every unnamed bit of every op code, alone, in pairs and several at once, at every place");
     each_unnamed(try_bits_in_group);
     family_of("check: unnamed bits behind low words", (const int[]){ 22, 111, 112, 113, -1 });
-    each_beside(try_places);
-    each_beside(try_group);
+    for (int older = 0; older < 2; older++) {
+        firmware = older ? any_older() : 0;
+        each_beside(try_places);
+        each_beside(try_group);
+    }
     family_of("check: unnamed bits beside other refusals", beside_placed);
+}
+
+/* A marker at the first place, one between and the last before a play, in plays that go round. */
+static void try_marker(uint64_t word, uint64_t number)
+{
+    size_t n = 5 + below(6), places[3] = { 0, 1 + below(n - 4), n - 3 };
+    for (int k = 0; k < 3; k++) {
+        for (size_t a = 0; a < n; a++)
+            words[a] = a < n - 1 ? PLAY : OP(6, 0);
+        words[places[k]] = word;
+        expect(n, number ? places[k] : 0, (struct told){ number, 0 });
+    }
+}
+
+/* A marker behind low words, and behind it low ones, if it is low itself, and a word that sends the group or breaks it. A group that is not
+   sent within seven words is 22 at its first word, whose form comes before that. */
+static void try_marker_group(uint64_t word, uint64_t number)
+{
+    static const uint64_t last[] = {
+        PLAY, OP(1, HIGH | 2), OP(10, HIGH | NCO(1) | 2), OP(2, HIGH | ENGINE_OP(1)), OP(9, HIGH | ENGINE_OP(2)), OP(6, 0), ~UINT64_C(0),
+    };
+    for (int k = 0; k < 7; k++) {
+        size_t low = below(8), n = low + 1 + (word & HIGH ? 0 : below(3)), sent = word & HIGH ? low : k < 3 ? n : 8;
+        for (size_t a = 0; a < n; a++)
+            words[a] = below(2) ? LOW : OP(1, WIDE - 1);
+        words[low] = word;
+        words[n] = last[k];
+        words[n + 1] = OP(6, 0);
+        if (number && (low == 0 || sent < 8))
+            expect(n + 2, low, (struct told){ number, 0 });
+        else
+            expect(n + 2, 0, (struct told){ sent < 8 ? 0 : 22, 0 });
+    }
+}
+
+static void markers(void)
+{
+    for (int k = 0; k < KINDS; k++) {
+        firmware = kinds[k];
+        each_marker(try_marker);
+        each_marker(try_marker_group);
+    }
+    family_of("check: marker counts around 2^20 at every place and in groups, for either firmware", (const int[]){ 0, 14, 15, 16, 22, 24, -1 });
+}
+
+static size_t first_wide(size_t n)
+{
+    size_t a = 0;
+    while (a < n && !is_wide(words[a]))
+        a++;
+    return a;
+}
+
+/* What older firmware makes of a sequence follows from what the current one makes of it: the first wide play is 24 where no word before it
+   is refused, nor its own form, and the marks stay; else number, place, bit and marks are the same. */
+static uint64_t try_law(size_t n, uint64_t wave)
+{
+    uint64_t before[SMALL + 2];
+    for (size_t i = 0; i < n + 2; i++)
+        ours[i] = theirs[i] = before[i] = random64();
+    firmware = any_older();
+    uint64_t current = aps2_check(words, n, wave, 0, theirs, n + 1, their_place);
+    uint64_t older = aps2_check(words, n, wave, firmware, ours, n + 1, our_place);
+    size_t wide = first_wide(n), refused = current == 0 || (current >= 30 && current <= 32) ? n : their_place[0];
+    int stops = wide < n && (wide < refused || (wide == refused && current == 22));
+    int good = current != 24 && older == (stops ? 24 : current) && our_place[0] == (stops ? wide : their_place[0]);
+    good &= our_place[1] == (stops ? 0 : their_place[1]);
+    for (size_t i = 0; i < n + 2; i++)
+        good &= ours[i] == (stops ? before[i] : theirs[i]);
+    compared++;
+    meet(older);
+    if (!good && !failed) {
+        failed = 1;
+        show_case(n, wave, n + 1);
+        show_answer("older", older, our_place);
+        show_answer("current", current, their_place);
+    }
+    return older;
+}
+
+static void laws(void)
+{
+    uint64_t accepted = 0;
+    for (int k = 0; k < 30000; k++) {
+        size_t n = 1 + below(16);
+        uint64_t wave = below(9);
+        marked_sequence(words, n, wave);
+        accepted += try_law(n, wave) == 0;
+    }
+    if (accepted < 1000 && !failed)
+        failed = 1, printf("  only %llu were accepted\n", (unsigned long long)accepted);
+    family_of("check: what older firmware accepts the current one accepts with the same marks, and all else but 24 is the same",
+              (const int[]){ 0, 20, 21, 22, 24, 30, 31, 32, -1 });
 }
 
 /* Refused input comes before any word, and tells no bit. */
@@ -256,13 +374,14 @@ static void bad_words_and_bad_input(void)
     for (int k = 0; k < 400; k++) {
         size_t n = 1 + below(4);
         for (size_t a = 0; a < n; a++)
-            words[a] = with_bits(ANYTHING, 2, some_bits(2));
+            words[a] = below(3) ? with_bits(ANYTHING, 2, some_bits(2)) : OP(1, HIGH | WIDE);
+        firmware = any_firmware();
         try_check(0, 8, n);
         try_check(n, 16777217, n);
         try_check(n, 8, n - 1);
         try_check(n, 8, n);
     }
-    family_of("check: refused input before unnamed bits", (const int[]){ 1, 3, 4, 111, 112, 113, -1 });
+    family_of("check: refused input before unnamed bits and wide counts", (const int[]){ 1, 3, 4, 24, 111, 112, 113, -1 });
 }
 
 static void bounds(void)
@@ -276,6 +395,7 @@ static void bounds(void)
             for (int less = -1; less <= 1; less++) {
                 if (lengths[l])
                     words[lengths[l] - 1] = OP(6, 0);
+                firmware = any_firmware();
                 try_check(lengths[l], waves[v], lengths[l] == 0 && less < 0 ? 0 : lengths[l] + (size_t)less);
                 if (lengths[l])
                     words[lengths[l] - 1] = OP(0, HIGH | UINT64_C(2) << 24);
@@ -285,6 +405,7 @@ static void bounds(void)
 
 int main(void)
 {
+    printf("seed %llu\n", (unsigned long long)seed);
     worked();
     random_checks();
     small_checks();
@@ -292,6 +413,8 @@ int main(void)
     nests();
     conditions();
     unnamed();
+    markers();
+    laws();
     bad_words_and_bad_input();
     bounds();
     return 0;

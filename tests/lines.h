@@ -16,15 +16,15 @@ static inline size_t put_number(uint8_t *to, uint64_t v)
 }
 
 /* The header line; tells its length. */
-static inline size_t put_header(uint8_t *to) { return second_listing(to, 0, to, HEADER); }
+static inline size_t put_header(uint8_t *to) { return second_listing(to, 0, 0, to, HEADER); }
 
-/* The line of a word; tells its length, at most LINE. */
-static inline size_t put_line(uint8_t *to, uint64_t address, uint64_t word)
+/* The line of a word for a firmware; tells its length, at most LINE. */
+static inline size_t put_line(uint8_t *to, uint64_t address, uint64_t word, uint64_t firmware)
 {
     uint8_t bytes[8], alone[HEADER + LINE];
     for (int i = 0; i < 8; i++)
         bytes[i] = (uint8_t)(word >> (56 - 8 * i));
-    size_t n = put_number(to, address), len = second_listing(bytes, 8, alone, sizeof alone);
+    size_t n = put_number(to, address), len = second_listing(bytes, 8, firmware, alone, sizeof alone);
     for (size_t i = HEADER + 1; i < len; i++) /* behind the header and the address 0 */
         to[n++] = alone[i];
     return n;

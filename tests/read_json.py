@@ -1,11 +1,12 @@
 # Reads what `aps2 list|check|run --json` prints, with Python's own parser, and prints the answer as the command says it without.
-# Usage: read_json.py list|check|run < OBJECTS. A name that is missing or one too many is an error.
+# Usage: read_json.py list|check|run older|current < OBJECTS. A name that is missing or one too many is an error, and so is another firmware.
 import json
 import sys
 
 HEADS = {'WAVEFORM': ['op', 'ta', 'count', 'address'], 'MARKER': ['op', 'transition', 'state', 'count'], 'LOAD_REPEAT': ['count'],
          'REPEAT': ['address'], 'GOTO': ['address'], 'CALL': ['address'], 'PREFETCH': ['address'], 'CMP': ['code', 'mask'],
          'MODULATOR': ['op', 'nco', 'payload']}
+FIRMWARE = sys.argv[2]
 ENGINES = ['waveform', 'marker_0', 'marker_1', 'marker_2', 'marker_3', 'modulator']
 
 
@@ -30,15 +31,16 @@ def told(number, bit):
 
 
 def listed(a):
-    file, status, words = only(a, ['file', 'status', 'listing'])
+    file, status, firmware, words = only(a, ['file', 'status', 'firmware', 'listing'])
+    assert firmware == FIRMWARE
     return ['aps2-listing\t1'] + [line(word) for word in words]
 
 
 def checked(a):
     if a['status'] == 2:
         return [only(a, ['file', 'status'])[0] + ': no answer']
-    file, status, number, place, bit, words, wave = only(a, ['file', 'status', 'number', 'place', 'bit', 'words', 'wave'])
-    assert status == (number != 0)
+    file, status, number, place, bit, words, wave, firmware = only(a, ['file', 'status', 'number', 'place', 'bit', 'words', 'wave', 'firmware'])
+    assert status == (number != 0) and firmware == FIRMWARE
     said = 'accepted: %d words' % words if number == 0 else 'refused: %d' % number + (' at word %d' % place if words else '')
     return [file + ': ' + said + told(number, bit)]
 
@@ -49,10 +51,11 @@ def engines(counts):
 
 def ran(a):
     core = ['address', 'steps', 'messages_used', 'trace_length', 'repeat_counter', 'register', 'condition', 'held', 'stack_depth']
-    values = only(a, ['file', 'status', 'end', 'bit', 'words', 'wave'] + core + ['stack', 'trigger_waits', 'quad_samples', 'trace'])
-    said = [name.replace('_', ' ') + '\t' + str(value) for name, value in zip(core, values[6:15])]
+    values = only(a, ['file', 'status', 'end', 'bit', 'words', 'wave', 'firmware'] + core + ['stack', 'trigger_waits', 'quad_samples', 'trace'])
+    said = [name.replace('_', ' ') + '\t' + str(value) for name, value in zip(core, values[7:16])]
     for depth, entry in enumerate(a['stack']):
         said.append('\tentry %d\treturns to %d\tcounter\t%d' % tuple([depth] + only(entry, ['returns_to', 'counter'])))
+    assert a['firmware'] == FIRMWARE
     assert len(a['stack']) == a['stack_depth'] and len(a['trace']) == a['trace_length']
     said += ['trigger waits'] + engines(a['trigger_waits']) + ['quad-samples'] + engines(a['quad_samples'])
     return ['end %d' % a['end'] + told(a['end'], a['bit'])] + said + ['trace %d' % len(a['trace'])] + a['trace']

@@ -1,6 +1,6 @@
-/* Listings read back, compared with the second program: the number, the line, how many words, and the whole buffer with its tail.
-   A case is made from its number and a seed. One that disagrees is printed with both, so that `read_listings FAMILY CASE SEED` runs it again
-   by itself, and with its text where that is short. */
+/* Listings read back for either firmware, compared with the second program: the number, the line, how many words, and the whole buffer with
+   its tail. A case is made from its number and a seed. One that disagrees is printed with both, so that `read_listings FAMILY CASE SEED`
+   runs it again by itself, and with its text where that is short. */
 #include "../include/aps2.h"
 #include "../second/second.h"
 #include "bits.h"
@@ -21,8 +21,9 @@ static void show_answer(const char *who, uint64_t number, const uint64_t told[2]
 
 static void show_case(size_t room)
 {
-    printf("  case: read_listings %llu %llu %llu; %llu bytes, room %llu\n", (unsigned long long)this_family, (unsigned long long)this_case,
-           (unsigned long long)this_seed, (unsigned long long)len, (unsigned long long)room);
+    printf("  case: read_listings %llu %llu %llu; firmware %llu, %llu bytes, room %llu\n", (unsigned long long)this_family,
+           (unsigned long long)this_case, (unsigned long long)this_seed, (unsigned long long)firmware, (unsigned long long)len,
+           (unsigned long long)room);
     if (len > SHORT)
         return;
     printf("  text: ");
@@ -74,8 +75,8 @@ static uint64_t try_read(size_t room)
     uint64_t told[2], second_told[2];
     lend(room, told, second_told);
     tempt();
-    uint64_t number = aps2_read_listing(text, len, ours, room, told);
-    uint64_t second = second_read_listing(text, len, theirs, room, second_told);
+    uint64_t number = aps2_read_listing(text, len, firmware, ours, room, told);
+    uint64_t second = second_read_listing(text, len, firmware, theirs, room, second_told);
     int good = number == second && told[0] == second_told[0] && told[1] == second_told[1] && untouched(number, told[1], room);
     for (size_t i = 0; i < room + BEHIND; i++)
         good &= ours[i] == theirs[i];
@@ -186,7 +187,9 @@ static void try_listed(uint64_t k)
 
 /* A `BAD` line, as a word with unnamed bits is listed, or with other fields, or none: 63 where it stands in turn, else 62, and 61 without
    its line feed. Whether there is room for a word is not asked. */
-static const char *const behind_bad[] = { "", "\t", "\t11", "\t111", "\t112\t55", "\t11\t112", "\t11\t113\t0\t0", "\t011\t+113\tx", "\t12\t0" };
+static const char *const behind_bad[] = {
+    "", "\t", "\t11", "\t111", "\t112\t55", "\t11\t112", "\t11\t113\t0\t0", "\t011\t+113\tx", "\t12\t0", "\t24",
+};
 #define BEHIND_BAD (sizeof behind_bad / sizeof *behind_bad)
 
 static void try_bad(uint64_t k)
@@ -205,6 +208,23 @@ static void try_bad(uint64_t k)
         put_word(ahead + 1, any_listed());
     if (try_read(ahead + below(3)) != expected[flaw] && !failed)
         failed = 1, show_case(ahead), printf("  %llu is expected\n", (unsigned long long)expected[flaw]);
+}
+
+/* A marker asked for, behind good lines, with room for its word or not. */
+static void try_asked(const uint64_t f[6], uint64_t number)
+{
+    size_t ahead = below(3), room = below(3) ? ahead + 1 : ahead;
+    uint64_t expected = number ? number : room == ahead ? 64 : 0;
+    start_text(ahead);
+    put_row(ahead, &rows[1], f);
+    if (try_read(room) != expected && !failed)
+        failed = 1, show_case(room), printf("  %llu is expected\n", (unsigned long long)expected);
+}
+
+static void try_markers(uint64_t k)
+{
+    firmware = kinds[k % KINDS];
+    each_asked(try_asked);
 }
 
 static void try_damages(uint64_t count)
@@ -339,7 +359,7 @@ static void try_name(uint64_t k)
 static void bad_fields(const struct row *row, uint64_t f[6])
 {
     uint64_t word[1], number = 0;
-    for (int tries = 0; tries < 100 && (number < 13 || number > 19); tries++) {
+    for (int tries = 0; tries < 100 && (number < 13 || number > 19) && number != 24; tries++) {
         any_fields(row, f);
         number = written(row, f, word);
     }
@@ -439,10 +459,10 @@ static void try_back(uint64_t k)
             words[i / 8] = good_word();
         bytes[i] = (uint8_t)(words[i / 8] >> (56 - 8 * (i % 8)));
     }
-    len = second_listing(bytes, 8 * n, text, TEXT);
+    len = second_listing(bytes, 8 * n, firmware, text, TEXT);
     lend(room, told, unused);
     tempt();
-    uint64_t number = aps2_read_listing(text, len, ours, room, told);
+    uint64_t number = aps2_read_listing(text, len, firmware, ours, room, told);
     int good = number == 0 && told[0] == 0 && told[1] == n && untouched(0, n, room);
     for (size_t i = 0; i < n; i++) {
         uint64_t code = words[i] >> 60;
@@ -467,6 +487,7 @@ static const struct {
     { "read listing: lines of all names, with any fields", 20000, try_fields },
     { "read listing: random words as they are listed, and BAD ones", 4000, try_listed },
     { "read listing: BAD lines, of unnamed bits and with other fields", 3 * (CODES + BEHIND_BAD) * 30, try_bad },
+    { "read listing: marker counts around 2^20 and past 32 bits in every op, for either firmware", 2 * KINDS, try_markers },
     { "read listing: one damage", 8000, try_damage },
     { "read listing: several damages", 4000, try_more_damages },
     { "read listing: numbers around 2^64, and not plain, at every place", ROWS * NUMBERS * 7, try_number },
@@ -484,7 +505,7 @@ static const struct {
 static void all_met(void)
 {
     for (uint64_t n = 0; n < MET; n++) {
-        int can = n == 0 || (n >= 13 && n <= 19) || n == 23 || (n >= 60 && n <= 64);
+        int can = n == 0 || (n >= 13 && n <= 19) || n == 23 || n == 24 || (n >= 60 && n <= 64);
         if ((ever[n] > 0) != can)
             failed = 1, printf("  number %llu: %llu times\n", (unsigned long long)n, (unsigned long long)ever[n]);
         compared += (uint64_t)can;
@@ -497,6 +518,7 @@ static void try_one(uint64_t which, uint64_t k)
     this_family = which;
     this_case = k;
     this_seed = seed;
+    firmware = any_firmware();
     families[which].try_case(k);
 }
 

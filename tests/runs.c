@@ -1,5 +1,6 @@
-/* Runs, compared with the second program field by field and word by word: the document's cases, random sequences at many budgets,
-   rooms, messages and triggers around where they stop, unnamed bits, the bounds of every input, and runs of the full million steps. */
+/* Runs for either firmware, compared with the second program field by field and word by word: the document's cases, random sequences at many
+   budgets, rooms, messages and triggers around where they stop, unnamed bits, marker counts, the bounds of every input, and runs of the full
+   million steps. */
 #include "../include/aps2.h"
 #include "../second/second.h"
 #include "bits.h"
@@ -20,14 +21,14 @@ struct input {
 
 static void show(const struct input *in)
 {
-    printf("  n %llu, W %llu, messages %llu, triggers %u, room %llu, budget %llu; ended %llu, second %llu\n  words", (unsigned long long)in->n,
-           (unsigned long long)in->wave, (unsigned long long)in->messages, in->triggers, (unsigned long long)in->room,
-           (unsigned long long)in->budget, (unsigned long long)ours[0], (unsigned long long)theirs[0]);
+    printf("  n %llu, W %llu, firmware %llu, messages %llu, triggers %u, room %llu, budget %llu; ended %llu, other %llu\n  words",
+           (unsigned long long)in->n, (unsigned long long)in->wave, (unsigned long long)firmware, (unsigned long long)in->messages, in->triggers,
+           (unsigned long long)in->room, (unsigned long long)in->budget, (unsigned long long)ours[0], (unsigned long long)theirs[0]);
     for (size_t i = 0; i < in->n && i < 40; i++)
         printf(" %llx", (unsigned long long)words[i]);
     for (int i = 0; i < ANSWER; i++)
         if (ours[i] != theirs[i])
-            printf("\n  answer %d: %llu, second %llu", i, (unsigned long long)ours[i], (unsigned long long)theirs[i]);
+            printf("\n  answer %d: %llu, other %llu", i, (unsigned long long)ours[i], (unsigned long long)theirs[i]);
     printf("\n");
 }
 
@@ -43,25 +44,34 @@ static int same_traces(size_t seen)
     return good;
 }
 
-/* Both programs run; the answers, the traces and their tails are compared, and at times the whole buffers. */
-static uint64_t try_run(struct input in)
+static void forget_answers(void)
 {
     for (int i = 0; i < ANSWER; i++)
         ours[i] = random64(), theirs[i] = random64();
-    uint64_t end = aps2_run(words, in.n, in.wave, messages, in.messages, in.triggers, our_trace, in.room, in.budget, ours);
-    uint64_t other = second_run(words, in.n, in.wave, messages, in.messages, in.triggers, their_trace, in.room, in.budget, theirs);
-    int good = end == other && ours[0] == end;
-    for (int i = 0; i < ANSWER; i++)
+}
+
+/* Ends the comparison of two runs: their answers from a place on, the traces and their tails, and at times the whole buffers. */
+static void compare(const struct input *in, int good, int from)
+{
+    for (int i = from; i < ANSWER; i++)
         good &= ours[i] == theirs[i];
-    good = good && tells_at(words, ours[1], end, ours[54]);
-    good &= same_traces(compared % 64 ? in.room + BEHIND : ROOM + BEHIND);
+    good &= same_traces(compared % 64 ? in->room + BEHIND : ROOM + BEHIND);
     compared++;
-    meet(end);
+    meet(ours[0]);
     if (!good) {
         if (!failed)
-            show(&in);
+            show(in);
         failed = 1;
     }
+}
+
+/* Both programs run. */
+static uint64_t try_run(struct input in)
+{
+    forget_answers();
+    uint64_t end = aps2_run(words, in.n, in.wave, firmware, messages, in.messages, in.triggers, our_trace, in.room, in.budget, ours);
+    uint64_t other = second_run(words, in.n, in.wave, firmware, messages, in.messages, in.triggers, their_trace, in.room, in.budget, theirs);
+    compare(&in, end == other && ours[0] == end && tells_at(words, ours[1], end, ours[54]), 0);
     return end;
 }
 
@@ -96,9 +106,10 @@ static void random_runs(void)
         struct input in = { 1 + below(below(3) ? 24 : 6), below(20), below(3) ? 200 : below(20), below(9), below(4) ? 120 : below(6), (uint32_t)below(4) };
         fresh_messages();
         any_sequence(words, in.n, in.wave);
+        firmware = any_firmware();
         try_around(in);
     }
-    family("run: random sequences, and inputs around where they stop");
+    family_of("run: random sequences, and inputs around where they stop", (const int[]){ 24, 40, 41, 42, 43, -1 });
 }
 
 /* Every sequence of up to three words over a small alphabet. */
@@ -107,7 +118,7 @@ static void small_runs(void)
     static const uint64_t alphabet[] = {
         OP(0, HIGH | UINT64_C(2) << 24), OP(0, UINT64_C(2) << 24), OP(1, HIGH | UINT64_C(1) << 46), OP(10, HIGH | UINT64_C(1) << 40 | 2),
         OP(2, HIGH | UINT64_C(1) << 46), OP(9, HIGH | UINT64_C(2) << 46), OP(3, 2), OP(4, 0), OP(4, 1), OP(5, 0), OP(5, 1),
-        OP(6, 0), OP(6, 2), OP(7, 0), OP(7, 1), OP(7, 2), OP(8, 0), OP(11, 0), OP(12, 0), ~UINT64_C(0), OP(13, 0),
+        OP(6, 0), OP(6, 2), OP(7, 0), OP(7, 1), OP(7, 2), OP(8, 0), OP(11, 0), OP(12, 0), ~UINT64_C(0), OP(13, 0), OP(1, HIGH | WIDE),
     };
     const int letters = sizeof alphabet / sizeof *alphabet;
     fresh_messages();
@@ -116,12 +127,13 @@ static void small_runs(void)
             for (int b = 0; b < (n > 1 ? letters : 1); b++)
                 for (int c = 0; c < (n > 2 ? letters : 1); c++) {
                     words[0] = alphabet[a], words[1] = alphabet[b], words[2] = alphabet[c];
+                    firmware = any_firmware();
                     struct input in = { (size_t)n, 1, 3, 2, 40, 0 };
                     try_run(in);
                     in.triggers = 1, in.room = 40;
                     try_run(in);
                 }
-    family("run: every sequence of up to three words over a small alphabet");
+    family_of("run: every sequence of up to three words over a small alphabet", (const int[]){ 10, 22, 24, 30, 31, 32, 40, 41, 42, 43, -1 });
 }
 
 static void groups(void)
@@ -131,14 +143,15 @@ static void groups(void)
             for (uint64_t room = 0; room <= 12; room++) {
                 size_t n = 0;
                 for (uint64_t i = 0; i < low; i++)
-                    words[n++] = OP(below(2) ? 0 : 1, (2 + below(3)) << 24 | below(2)) | 2;
+                    words[n++] = below(2) ? OP(0, (2 + below(3)) << 24 | 2 | below(2)) : OP(1, marker_count(2 + below(3)));
                 words[n++] = after == 13 ? ~UINT64_C(0) : after == 0 ? OP(0, HIGH | UINT64_C(2) << 24) : after == 2 ? OP(2, HIGH | UINT64_C(1) << 46)
                     : after == 9 ? OP(9, HIGH | UINT64_C(2) << 46) : after == 10 ? OP(10, HIGH | UINT64_C(1) << 40 | 9) : OP(after, after == 1 ? HIGH | 2 : 0);
                 words[n++] = OP(6, 0);
                 struct input in = { n, 0, room, 8, 60, 1 };
+                firmware = any_firmware();
                 try_run(in);
             }
-    family("run: groups of up to nine low words, with every kind of word after them, at every room");
+    family_of("run: groups of up to nine low words, with every kind of word after them, at every room", (const int[]){ 22, 24, 40, 43, -1 });
 }
 
 /* A damaged word where it is met at once. */
@@ -151,9 +164,10 @@ static void damaged(void)
         words[1] = OP(6, 2);
         words[2] = OP(8, 0);
         struct input in = { 3, below(2), 1, 8, 5, 0 };
+        firmware = any_firmware();
         try_run(in);
     }
-    family_of("run: damaged words", (const int[]){ 10, 12, 111, 112, 113, -1 });
+    family_of("run: damaged words", (const int[]){ 10, 12, 24, 111, 112, 113, -1 });
 }
 
 /* What a run tells that stops at a word: number, address, steps, trace length, held, bit. Each word before it was a step, and those that are
@@ -189,6 +203,7 @@ static void try_places(uint64_t word, struct told t)
 static void try_bits(uint64_t code, uint64_t bits)
 {
     uint64_t word = with_bits(GOOD, code, bits);
+    firmware = any_firmware();
     try_places(word, told_of(word));
 }
 
@@ -196,6 +211,7 @@ static void try_bits(uint64_t code, uint64_t bits)
 static void try_late(uint64_t code, uint64_t bits)
 {
     uint64_t word = with_bits(any_base(), code, bits);
+    firmware = any_firmware();
     words[0] = OP(3, 1 + below(65535));
     for (size_t a = 1; a <= 16; a++)
         words[a] = OP(7, a + 1);
@@ -219,6 +235,7 @@ static void try_breaking(uint64_t code, uint64_t bits)
     struct input in = { 4, 0, 8, 8, 60, 0 };
     if (code == 0 || code == 1 || code == 10)
         return;
+    firmware = any_firmware();
     words[0] = words[1] = OP(0, UINT64_C(2) << 24);
     words[2] = word;
     words[3] = OP(6, 0);
@@ -232,13 +249,14 @@ static void bad_words_and_bad_input(void)
 {
     for (int k = 0; k < 400; k++) {
         for (size_t a = 0; a < 3; a++)
-            words[a] = with_bits(ANYTHING, 2, some_bits(2));
+            words[a] = below(3) ? with_bits(ANYTHING, 2, some_bits(2)) : OP(1, HIGH | WIDE);
+        firmware = any_firmware();
         try_run((struct input){ 0, 0, 8, 8, 60, 0 });
         try_run((struct input){ 3, 0, 8, 16777217, 60, 0 });
         try_run((struct input){ 3, 0, 8, 8, 1000001, 0 });
         try_run((struct input){ 3, 0, 8, 8, 60, 0 });
     }
-    family_of("run: refused input before unnamed bits", (const int[]){ 1, 3, 5, 111, 112, 113, -1 });
+    family_of("run: refused input before unnamed bits and wide counts", (const int[]){ 1, 3, 5, 24, 111, 112, 113, -1 });
 }
 
 static void unnamed(void)
@@ -247,9 +265,79 @@ static void unnamed(void)
     family_of_bits("run: every unnamed bit of every op code, alone, in pairs and several at once, at every place, with words held and without");
     each_unnamed(try_late);
     family_of_bits("run: unnamed bits under a full stack, and passed by");
-    each_beside(try_places);
+    for (int older = 0; older < 2; older++) {
+        firmware = older ? any_older() : 0;
+        each_beside(try_places);
+    }
     each_unnamed(try_breaking);
     family_of("run: unnamed bits beside other refusals", beside_placed);
+}
+
+/* A marker behind words that were sent and words that are held, and behind it a word that sends the group or breaks it. Where its form lets
+   it through it is 22 as the eighth low word, or the word behind it is, or the run goes round. */
+static void try_marker(uint64_t word, uint64_t number)
+{
+    static const uint64_t last[] = {
+        OP(0, HIGH | UINT64_C(2) << 24), OP(1, HIGH | 2), OP(10, HIGH | NCO(1) | 2), OP(2, HIGH | ENGINE_OP(1)), OP(9, HIGH | ENGINE_OP(2)),
+        OP(6, 0), ~UINT64_C(0),
+    };
+    for (int k = 0; k < 7; k++) {
+        size_t sent = below(3), low = below(8), at = sent + low;
+        struct input in = { at + 3, 0, 8 + below(40), 8, 60, 1 };
+        for (size_t a = 0; a < at; a++)
+            words[a] = (below(2) ? OP(0, UINT64_C(2) << 24) : OP(1, WIDE - 1)) | (a < sent ? HIGH : 0);
+        words[at] = word;
+        words[at + 1] = last[k];
+        words[at + 2] = OP(6, 0);
+        if (number)
+            expect_stop(&in, (struct told){ number, 0 }, at, low);
+        else if (!(word & HIGH) && low == 7)
+            expect_stop(&in, (struct told){ 22, 0 }, at, low);
+        else if (!(word & HIGH) && k > 2)
+            expect_stop(&in, (struct told){ 22, 0 }, at + 1, low + 1);
+        else
+            try_run(in);
+    }
+}
+
+static void markers(void)
+{
+    for (int k = 0; k < KINDS; k++) {
+        firmware = kinds[k];
+        each_marker(try_marker);
+    }
+    family_of("run: marker counts around 2^20, alone and in groups, for either firmware", (const int[]){ 14, 15, 16, 22, 24, 40, 41, 43, -1 });
+}
+
+/* A run for older firmware that does not end with 24 is that for the current one, in the whole answer and the whole trace. One that does has
+   met a wide play, and is the current one's with a budget of as many steps. No wide play is ever sent. */
+static uint64_t try_law(struct input in)
+{
+    forget_answers();
+    firmware = any_older();
+    uint64_t end = aps2_run(words, in.n, in.wave, firmware, messages, in.messages, in.triggers, our_trace, in.room, in.budget, ours);
+    uint64_t budget = end == 24 ? ours[2] : in.budget;
+    uint64_t current = aps2_run(words, in.n, in.wave, 0, messages, in.messages, in.triggers, their_trace, in.room, budget, theirs);
+    int good = ours[0] == end && theirs[0] == current && current == (end == 24 ? 40 : end) && (end != 24 || is_wide(words[ours[1]]));
+    for (size_t i = 0; i < ours[4] && i < ROOM; i++)
+        good &= !is_wide(our_trace[i]);
+    compare(&in, good, 1);
+    return end;
+}
+
+static void laws(void)
+{
+    uint64_t sent = 0;
+    for (int k = 0; k < 30000; k++) {
+        struct input in = { 1 + below(16), below(20), below(3) ? 200 : below(20), below(9), below(4) ? 120 : below(20), (uint32_t)below(4) };
+        fresh_messages();
+        marked_sequence(words, in.n, in.wave);
+        if (try_law(in) != 24)
+            sent += ours[12] + ours[13] + ours[14] + ours[15] >= WIDE - 1;
+    }
+    if (sent < 1000 && !failed)
+        failed = 1, printf("  only %llu runs sent a marker\n", (unsigned long long)sent);
+    family_of("run: for older firmware as for the current one, up to a wide count", (const int[]){ 20, 21, 22, 24, 30, 31, 32, 40, 41, 42, 43, -1 });
 }
 
 static void nests(void)
@@ -263,6 +351,7 @@ static void nests(void)
                 words[n++] = OP(5, back == 1 ? 0 : 1);
             words[n++] = OP(8, 0);
             words[n++] = OP(8, 0);
+            firmware = any_firmware();
             struct input in = { n, 0, 4, 0, 100, 0 };
             try_around(in);
         }
@@ -279,6 +368,7 @@ static void bounds(void)
         for (int j = 0; j < 5; j++)
             for (int k = 0; k < 6; k++) {
                 struct input in = { sizes[i], 0, ROOM, waves[j], budgets[k], (uint32_t)random64() };
+                firmware = any_firmware();
                 try_run(in);
                 in.room = 0;
                 try_run(in);
@@ -306,6 +396,7 @@ static void long_runs(void)
         for (size_t i = 0; i < sizes[k]; i++)
             words[i] = loops[k][i];
         struct input in = { sizes[k], 0, ROOM, 8, 1000000, 7 };
+        firmware = any_firmware();
         try_run(in);
         in.budget = 999999;
         try_run(in);
@@ -331,7 +422,7 @@ static void expect(struct input in, const uint64_t *case_words, const uint64_t *
     } while (0)
 #define INPUT(...) { __VA_ARGS__ }
 
-static void worked(void)
+static void cases(void)
 {
     static const uint64_t p1[] = { UINT64_C(0x9100800000000000), UINT64_C(0x2100400000000000), UINT64_C(0x0100000004000001), UINT64_C(0x6000000000000000) };
     static const uint64_t p5[] = { UINT64_C(0x3000000000000002), UINT64_C(0x0100000004000001), UINT64_C(0x4000000000000001), UINT64_C(0x6000000000000003) };
@@ -350,13 +441,21 @@ static void worked(void)
     EXPECT(INPUT(1, 0, 8, 9, 10, 0), not_noop, 0, 10);
     EXPECT(INPUT(8, 0, 8, 9, 10, 0), eight, 0, 22, 1, 7, 20, 7);
     EXPECT(INPUT(1, 0, 8, 9, 1000001, 0), play, 0, 5, 1, 0, 2, 0);
-    family("run: the cases of document 01");
+}
+
+static void worked(void)
+{
+    firmware = 0;
+    cases();
+    firmware = any_older();
+    cases();
+    family("run: the cases of document 01, for either firmware");
 }
 
 static void all_met(void)
 {
     for (int n = 0; n < MET; n++) {
-        int input = (n >= 1 && n <= 3) || n == 5, word = n == 10 || (n >= 111 && n <= 113) || (n >= 12 && n <= 22);
+        int input = (n >= 1 && n <= 3) || n == 5, word = n == 10 || (n >= 111 && n <= 113) || (n >= 12 && n <= 22) || n == 24;
         int can = input || word || (n >= 30 && n <= 32) || (n >= 40 && n <= 43);
         if ((ever[n] > 0) != can)
             failed = 1, printf("  end %d: %llu times\n", n, (unsigned long long)ever[n]);
@@ -378,6 +477,8 @@ int main(void)
     groups();
     damaged();
     unnamed();
+    markers();
+    laws();
     bad_words_and_bad_input();
     nests();
     bounds();

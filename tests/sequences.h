@@ -8,6 +8,18 @@
 #define OP(code, rest) ((uint64_t)(code) << 60 | (rest))
 #define HIGH (UINT64_C(1) << 56)
 
+/* The first marker count that older firmware does not take, and counts around it and far above. */
+#define WIDE (UINT64_C(1) << 20)
+static const uint64_t counts[] = { WIDE - 1, WIDE, WIDE + 1, 2 * WIDE - 1, 2 * WIDE, WIDE << 11, UINT64_C(0xFFF00000), UINT64_C(0xFFFFFFFF) };
+enum { COUNTS = sizeof counts / sizeof *counts };
+
+/* A marker's count, mostly the one given. */
+static inline uint64_t marker_count(uint64_t count)
+{
+    uint64_t k = below(9 * COUNTS);
+    return k % 9 ? count : counts[k / 9];
+}
+
 static inline uint64_t engine_select(void) { return below(4) << 58; }
 
 /* A word for an engine; its write flag as told. */
@@ -21,7 +33,7 @@ static inline uint64_t engine_word(uint64_t wave, int high)
     case 3: return OP(0, w | UINT64_C(1) << 45 | count << 24 | address);
     case 4: return OP(1, w | UINT64_C(1) << 46);
     case 5: return OP(1, w | below(32) << 32 | count);
-    case 6: return OP(1, w | below(32) << 32 | (below(9) ? count : UINT64_C(0xFFFFFFFF)));
+    case 6: return OP(1, w | below(32) << 32 | marker_count(count));
     case 7: return OP(10, w | UINT64_C(2) << 45);
     case 8: return OP(10, w | (1 + below(2)) << 40 | count);
     case 9: return OP(10, w | (below(2) ? UINT64_C(3) : UINT64_C(7)) << 45 | (1 + below(3)) << 40 | below(UINT64_C(1) << 30));

@@ -1,8 +1,9 @@
-/* Texts to read back: lines of every name with any fields, put together one after the other, and damaged. */
+/* Texts to read back: lines of every name with any fields, put together one after the other, and damaged. What is good is so for the
+   firmware of the case. */
 #ifndef TEXTS_H
 #define TEXTS_H
 
-#include "check.h"
+#include "firmware.h"
 #include "lines.h"
 
 #define MOST 3000 /* words */
@@ -32,7 +33,7 @@ static inline const struct row *any_row(void) { return &rows[below(ROWS)]; }
 static inline uint64_t top(int width) { return (UINT64_C(1) << width) - 1; }
 
 /* Numbers worth trying in a field: the ends, one past them, the numbers that rules speak of, and their neighbours. */
-#define EDGES 21
+#define EDGES 25
 static inline uint64_t edge(uint64_t k, int width)
 {
     switch (k) {
@@ -56,6 +57,10 @@ static inline uint64_t edge(uint64_t k, int width)
     case 17: return ~UINT64_C(0);
     case 18: return 128 * below(200);
     case 19: return below(top(width) + 1);
+    case 20: return WIDE - 1;
+    case 21: return WIDE;
+    case 22: return WIDE + 1;
+    case 23: return 2 * WIDE;
     default: return random64() >> below(64);
     }
 }
@@ -76,7 +81,7 @@ static inline uint64_t written(const struct row *row, const uint64_t f[6], uint6
     uint64_t fields[8] = { row->code };
     for (int i = 0; i < row->count; i++)
         fields[1 + i] = f[i];
-    return second_write(fields, word);
+    return second_write(fields, firmware, word);
 }
 
 /* Fields of a row that are an instruction; its word. */
@@ -124,7 +129,7 @@ static inline void put_row(uint64_t address, const struct row *row, const uint64
     put_bytes("\n");
 }
 
-static inline void put_word(uint64_t address, uint64_t word) { len += put_line(text + len, address, word); }
+static inline void put_word(uint64_t address, uint64_t word) { len += put_line(text + len, address, word, firmware); }
 
 /* The header and n lines that are good. */
 static inline void start_text(size_t n)

@@ -1,6 +1,6 @@
 /* Cases from a separate implementation, one to a line on standard input, compared with the proved code.
    The first line names the kind: `read`, `write`, `check`, `run`, `listing` or `read_listing`. Lists are parted by commas, `-` is the empty
-   list, words are hexadecimal. */
+   list, words are hexadecimal. Every case has its firmware, which is passed on. */
 #include "../include/aps2.h"
 #include "check.h"
 
@@ -59,8 +59,8 @@ static void disagree(uint64_t line)
 static void read_cases(void)
 {
     while (more()) {
-        uint64_t word = number(16), expected = number(10), fields[8], bit[1] = { 99 };
-        int good = aps2_read(word, fields, bit) == expected;
+        uint64_t word = number(16), firmware = number(10), expected = number(10), fields[8], bit[1] = { 99 };
+        int good = aps2_read(word, firmware, fields, bit) == expected;
         for (int i = 0; i < 8; i++)
             good &= number(10) == fields[i];
         good &= number(10) == bit[0];
@@ -69,7 +69,7 @@ static void read_cases(void)
         if (!good)
             disagree(compared);
     }
-    family_of("vectors: read", (const int[]){ 0, 10, 12, 13, 14, 15, 16, 17, 18, 19, 111, 112, 113, -1 });
+    family_of("vectors: read", (const int[]){ 0, 10, 12, 13, 14, 15, 16, 17, 18, 19, 24, 111, 112, 113, -1 });
 }
 
 static void write_cases(void)
@@ -78,14 +78,15 @@ static void write_cases(void)
         uint64_t fields[8], word[1];
         for (int i = 0; i < 8; i++)
             fields[i] = number(10);
-        uint64_t expected = number(10), given = aps2_write(fields, word);
+        uint64_t firmware = number(10), expected = number(10), given = aps2_write(fields, firmware, word);
         int good = given == expected;
         good &= number(16) == word[0];
         compared++;
+        meet(expected);
         if (!good)
             disagree(compared);
     }
-    family("vectors: write");
+    family_of("vectors: write", (const int[]){ 0, 10, 13, 14, 15, 16, 17, 18, 23, 24, -1 });
 }
 
 #define MOST 4096
@@ -96,7 +97,7 @@ static uint8_t messages[MOST];
 static void run_cases(void)
 {
     while (more()) {
-        uint64_t wave = number(10), answer[55], expected[55];
+        uint64_t wave = number(10), firmware = number(10), answer[55], expected[55];
         for (int i = 0; i < 55; i++)
             answer[i] = 99;
         size_t n = numbers(16, words, MOST), m = numbers(10, listed, MOST);
@@ -106,7 +107,8 @@ static void run_cases(void)
         size_t fields = numbers(10, expected, 55), sent = numbers(16, dispatched, MOST);
         for (size_t i = 0; i < MOST; i++)
             trace[i] = i * 3 + 1;
-        int good = aps2_run(words, n, wave, messages, m, (uint32_t)triggers, trace, room, budget, answer) == expected[0] && fields == 55;
+        int good = fields == 55;
+        good &= aps2_run(words, n, wave, firmware, messages, m, (uint32_t)triggers, trace, room, budget, answer) == expected[0];
         for (int i = 0; i < 55; i++)
             good &= answer[i] == expected[i];
         for (size_t i = 0; i < MOST; i++)
@@ -116,20 +118,20 @@ static void run_cases(void)
         if (!good)
             disagree(compared);
     }
-    family_of("vectors: run", (const int[]){ 40, 111, 112, 113, -1 });
+    family_of("vectors: run", (const int[]){ 24, 40, 111, 112, -1 });
 }
 
 /* Marks are hexadecimal, and all 1 before. */
 static void check_cases(void)
 {
     while (more()) {
-        uint64_t wave = number(10), place[2] = { 99, 99 };
+        uint64_t wave = number(10), firmware = number(10), place[2] = { 99, 99 };
         size_t n = numbers(16, words, MOST), room = number(10);
         uint64_t expected = number(10), at = number(10), bit = number(10);
         size_t marks = numbers(16, listed, MOST);
         for (size_t i = 0; i < MOST; i++)
             trace[i] = 1;
-        int good = aps2_check(words, n, wave, trace, room, place) == expected && place[0] == at && place[1] == bit && marks == room;
+        int good = aps2_check(words, n, wave, firmware, trace, room, place) == expected && place[0] == at && place[1] == bit && marks == room;
         for (size_t i = 0; i < MOST; i++)
             good &= trace[i] == (i < marks ? listed[i] : 1);
         compared++;
@@ -137,7 +139,7 @@ static void check_cases(void)
         if (!good)
             disagree(compared);
     }
-    family_of("vectors: check", (const int[]){ 0, 111, 112, 113, -1 });
+    family_of("vectors: check", (const int[]){ 0, 24, 111, 112, 113, -1 });
 }
 
 #define TEXT 200000
@@ -160,37 +162,56 @@ static size_t hexadecimal(uint8_t *list)
     return n / 2;
 }
 
+/* The number of each `BAD` line. */
+static void meet_bad(const uint8_t *listing, size_t len)
+{
+    for (size_t i = 0; i + 3 < len; i++) {
+        if (listing[i] != 'B' || listing[i + 1] != 'A' || listing[i + 2] != 'D')
+            continue;
+        uint64_t n = 0;
+        for (i += 4; i < len && listing[i] >= '0' && listing[i] <= '9'; i++)
+            n = n * 10 + (listing[i] - '0');
+        meet(n);
+    }
+}
+
 static void listing_cases(void)
 {
     while (more()) {
-        size_t n = hexadecimal(raw), length = hexadecimal(expected_text);
-        int good = aps2_listing(raw, n, text, TEXT) == length;
+        size_t n = hexadecimal(raw);
+        uint64_t firmware = number(10);
+        size_t length = hexadecimal(expected_text);
+        int good = aps2_listing(raw, n, firmware, text, TEXT) == length;
         for (size_t i = 0; i < length; i++)
             good &= text[i] == expected_text[i];
         compared++;
+        meet_bad(expected_text, length);
         if (!good)
             disagree(compared);
     }
-    family("vectors: listing");
+    family_of("vectors: listing", (const int[]){ 10, 11, 12, 13, 14, 15, 16, 17, 18, 24, -1 });
 }
 
 /* Words after are the whole buffer, which is all 1 before. */
 static void read_listing_cases(void)
 {
     while (more()) {
-        size_t n = hexadecimal(text), room = number(10);
+        size_t n = hexadecimal(text);
+        uint64_t firmware = number(10);
+        size_t room = number(10);
         uint64_t expected = number(10), line = number(10), count = number(10), told[2];
         size_t after = numbers(16, listed, MOST);
         for (size_t i = 0; i < MOST; i++)
             words[i] = 1;
-        int good = aps2_read_listing(text, n, words, room, told) == expected && told[0] == line && told[1] == count && after == room;
+        int good = aps2_read_listing(text, n, firmware, words, room, told) == expected && told[0] == line && told[1] == count && after == room;
         for (size_t i = 0; i < MOST; i++)
             good &= words[i] == (i < after ? listed[i] : 1);
         compared++;
+        meet(expected);
         if (!good)
             disagree(compared);
     }
-    family("vectors: read_listing");
+    family_of("vectors: read_listing", (const int[]){ 0, 23, 24, 60, 61, 62, 63, 64, -1 });
 }
 
 static const struct {

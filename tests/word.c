@@ -1,5 +1,5 @@
-/* Reading and writing, compared with the second program: every op code with every field at its edges and past them,
-   every single-bit damage of valid words, unnamed bits, and random words; what is read is also written back. */
+/* Reading and writing for either firmware, compared with the second program: every op code with every field at its edges and past them,
+   every single-bit damage of valid words, unnamed bits, marker counts, and random words; what is read is also written back. */
 #include "../include/aps2.h"
 #include "../second/second.h"
 #include "bits.h"
@@ -71,7 +71,8 @@ static uint64_t ever_writing[MET];
 static void all_met(void)
 {
     for (int n = 0; n < MET; n++) {
-        int both = n == 0 || n == 10 || (n >= 13 && n <= 19), reading = both || n == 12 || (n >= 111 && n <= 113), writing = both || n == 23;
+        int both = n == 0 || n == 10 || (n >= 13 && n <= 19) || n == 24;
+        int reading = both || n == 12 || (n >= 111 && n <= 113), writing = both || n == 23;
         if ((ever[n] > 0) != reading || (ever_writing[n] > 0) != writing)
             failed = 1, printf("  number %d: read %llu times, written %llu times\n", n, (unsigned long long)ever[n], (unsigned long long)ever_writing[n]);
         compared += (uint64_t)(reading + writing);
@@ -79,19 +80,35 @@ static void all_met(void)
     family("word: every number was met");
 }
 
+/* What is written for this firmware follows from what is written for the current one. */
+static int follows_in_writing(const uint64_t fields[8], uint64_t number, uint64_t word)
+{
+    uint64_t plain[1], current = aps2_write(fields, 0, plain);
+    int wide = fields[0] == 1 && fields[3] == 0 && fields[6] >= WIDE;
+    return current != 24 && number == number_for(current, wide) && word == (number ? 0 : plain[0]);
+}
+
 /* Both programs write what is asked for; tells the number. */
 static uint64_t try_write(const uint64_t fields[8])
 {
     uint64_t ours[1] = { random64() }, theirs[1] = { random64() };
-    uint64_t n = aps2_write(fields, ours), m = second_write(fields, theirs);
+    uint64_t n = aps2_write(fields, firmware, ours), m = second_write(fields, firmware, theirs);
     writes++;
     ever_writing[n < MET ? n : MET - 1]++;
-    if (n != m || ours[0] != theirs[0] || (n && ours[0])) {
+    if (n != m || ours[0] != theirs[0] || !follows_in_writing(fields, n, ours[0])) {
         if (!failed)
-            show("write", n, fields), printf("  ours %llx, second %llu %llx\n", (unsigned long long)ours[0], (unsigned long long)m, (unsigned long long)theirs[0]);
+            show("write", n, fields), printf("  firmware %llu, ours %llx, second %llu %llx\n", (unsigned long long)firmware,
+                                             (unsigned long long)ours[0], (unsigned long long)m, (unsigned long long)theirs[0]);
         failed = 1;
     }
     return n;
+}
+
+/* What is read for this firmware follows from what is read for the current one. */
+static int follows(uint64_t word, uint64_t number)
+{
+    uint64_t fields[8], bit[1], current = aps2_read(word, 0, fields, bit);
+    return current != 24 && number == number_for(current, is_wide(word));
 }
 
 /* Both programs read a word; an accepted word is written back. */
@@ -100,21 +117,31 @@ static uint64_t try_read(uint64_t word)
     uint64_t ours[8], theirs[8], our_bit[1] = { random64() }, their_bit[1] = { random64() }, back[1];
     fill(ours);
     fill(theirs);
-    uint64_t n = aps2_read(word, ours, our_bit), m = second_read(word, theirs, their_bit);
+    uint64_t n = aps2_read(word, firmware, ours, our_bit), m = second_read(word, firmware, theirs, their_bit);
     compared++;
     meet(n);
-    int good = n == m && same(ours, theirs) && our_bit[0] == their_bit[0] && tells(word, n, our_bit[0]);
+    int good = n == m && same(ours, theirs) && our_bit[0] == their_bit[0] && tells(word, n, our_bit[0]) && follows(word, n);
     if (good && n == 0) {
         uint64_t code = word >> 60, kept = code == 8 || code == 11 ? word >> 56 << 56 : word;
-        good = aps2_write(ours, back) == 0 && back[0] == kept && try_write(ours) == 0;
+        good = aps2_write(ours, firmware, back) == 0 && back[0] == kept && try_write(ours) == 0;
     }
     if (!good) {
         if (!failed)
-            printf("  word %llx, bit %llu, second %llu\n", (unsigned long long)word, (unsigned long long)our_bit[0], (unsigned long long)their_bit[0]),
+            printf("  word %llx, firmware %llu, bit %llu, second %llu\n", (unsigned long long)word, (unsigned long long)firmware,
+                   (unsigned long long)our_bit[0], (unsigned long long)their_bit[0]),
                 show("ours", n, ours), show("second", m, theirs);
         failed = 1;
     }
     return n;
+}
+
+/* A word read for either firmware. */
+static void try_both(uint64_t word)
+{
+    firmware = 0;
+    try_read(word);
+    firmware = any_older();
+    try_read(word);
 }
 
 /* A word of an op code, each field with an edge of its own: digits of `pick` in base EDGES, or random ones. */
@@ -136,17 +163,18 @@ static void read_edges(void)
             all *= EDGES;
         for (uint64_t pick = 0; pick < all; pick++)
             for (uint64_t header = 0; header < 4; header++)
-                try_read(word_of(code, pick, header == 3 ? 0xB : header == 2 ? 0x8 : header ? 0x9 : 0));
+                try_both(word_of(code, pick, header == 3 ? 0xB : header == 2 ? 0x8 : header ? 0x9 : 0));
     }
-    try_read(~UINT64_C(0));
-    try_read(0);
-    family("read: every op code, every field at its edges");
+    try_both(~UINT64_C(0));
+    try_both(0);
+    family("read: every op code, every field at its edges, for either firmware");
 }
 
 static void read_damaged(void)
 {
     for (int n = 0; n < 3000;) {
         uint64_t w = n % 100 == 0 ? ~UINT64_C(0) : word_of(below(13), random64(), below(16) & 0xB);
+        firmware = any_firmware();
         if (try_read(w))
             continue;
         n++;
@@ -160,6 +188,7 @@ static void read_random(void)
 {
     for (int n = 0; n < 100000; n++) {
         uint64_t w = random64(), few = random64() & random64() & random64();
+        firmware = any_firmware();
         try_read(w);
         try_read(few);
         try_read((w & ~(UINT64_C(15) << 60)) | below(13) << 60);
@@ -170,6 +199,7 @@ static void read_random(void)
 
 static void try_unnamed(uint64_t code, uint64_t bits)
 {
+    firmware = any_firmware();
     for (int base = 0; base < BASES; base++)
         try_read(with_bits(base, code, bits));
 }
@@ -187,13 +217,34 @@ static void read_unnamed(void)
     family_of_bits("read: every unnamed bit of every op code, alone, in pairs and several at once");
     for (int n = 0; n < 40000; n++) {
         uint64_t code = below(CODES);
+        firmware = any_firmware();
         try_read(with_bits(n % BASES, code, some_bits(code)));
     }
     family_of_bits("read: random words with unnamed bits");
-    each_beside(try_beside);
-    for (int n = 0; n < 4000; n++)
-        try_read(random64() | OP(13 + below(3), UINT64_C(1) << 57));
+    for (int older = 0; older < 2; older++) {
+        firmware = older ? any_older() : 0;
+        each_beside(try_beside);
+        for (int n = 0; n < 2000; n++)
+            try_read(random64() | OP(13 + below(3), UINT64_C(1) << 57));
+    }
     family_of("read: unnamed bits beside other refusals", beside);
+}
+
+static void try_marker(uint64_t word, uint64_t number)
+{
+    if (try_read(word) != number && !failed)
+        failed = 1, printf("  word %llx, firmware %llu: %llu is expected\n", (unsigned long long)word, (unsigned long long)firmware,
+                           (unsigned long long)number);
+    try_read(word | some_bits(1));
+}
+
+static void read_markers(void)
+{
+    for (int k = 0; k < KINDS; k++) {
+        firmware = kinds[k];
+        each_marker(try_marker);
+    }
+    family_of("read: marker counts around 2^20 in every op, for either firmware", (const int[]){ 0, 14, 15, 16, 24, 111, 112, 113, -1 });
 }
 
 static void write_edges(void)
@@ -215,10 +266,29 @@ static void write_edges(void)
                 f[3 + below(5)] = below(2) ? 1 : random64();
             if (row == 2 || row == 9 || row == 8 || row == 11 || row > 12)
                 f[3] = n % 3 ? 0 : f[3];
+            firmware = any_firmware();
             try_write(f);
         }
     compared = writes;
-    family("write: every op code, every field at its edges and past them");
+    family("write: every op code, every field at its edges and past them, for either firmware");
+}
+
+static void try_asked(const uint64_t f[6], uint64_t number)
+{
+    const uint64_t fields[8] = { 1, f[0], f[1], f[2], f[3], f[4], f[5] };
+    if (try_write(fields) != number && !failed)
+        failed = 1, show("expected", number, fields);
+}
+
+static void write_markers(void)
+{
+    writes = 0;
+    for (int k = 0; k < KINDS; k++) {
+        firmware = kinds[k];
+        each_asked(try_asked);
+    }
+    compared = writes;
+    family("write: marker counts around 2^20 and past 32 bits in every op, for either firmware");
 }
 
 int main(void)
@@ -228,8 +298,10 @@ int main(void)
     read_damaged();
     read_random();
     read_unnamed();
+    read_markers();
     writes = 0;
     write_edges();
+    write_markers();
     all_met();
     return 0;
 }

@@ -6,7 +6,7 @@ use files::messages::messages_of;
 use files::trace::save;
 use instruction::QuadSamples;
 use instruction::Refusal;
-use instruction::WordAddress;
+use instruction::Rules;
 use json::file;
 use json::state as by_name;
 use rehearsal::Answer;
@@ -21,43 +21,50 @@ use request::asked::Asked;
 use sequence::Sequence;
 use told::say;
 use told::say_number;
+use verdict::Verdict;
 
 pub fn list(words: &[u64], asked: Asked) {
     if asked.json {
         file::begin(asked.file, told::ACCEPTED);
+        file::say_firmware(asked.rules);
         file::say_key(b"listing");
-        json::words::say_words(words);
+        json::words::say_words(words, asked.rules);
         file::end();
     } else {
-        say_listing(words);
+        say_listing(words, asked.rules);
     }
     told::ends(told::ACCEPTED, 0);
 }
 
-fn say_accepted(n: usize, wave: QuadSamples) {
+fn say_accepted(n: usize, wave: QuadSamples, rules: Rules) {
     say(b"accepted: ");
     say_number(n as u64);
     say(b" words, ");
     say_number(wave.0);
-    say(b" quad-samples of waveform memory\n");
+    say(b" quad-samples of waveform memory");
+    let firmware = rules.firmware;
+    if firmware.is_older() {
+        say(b", older firmware");
+    }
+    say(b"\n");
 }
 
-fn say_refused(words: &[u64], refusal: Refusal, place: WordAddress, listed: bool) {
+fn say_refused(words: &[u64], verdict: Verdict, listed: bool, rules: Rules) {
     say(b"refused: ");
-    say_number(refusal.number);
-    say_place(words, refusal, place, listed);
+    say_number(verdict.refusal.number);
+    say_place(words, verdict.refusal, verdict.place, listed, rules);
 }
 
-pub fn check(words: &[u64], wave: QuadSamples, listed: bool) {
+pub fn check(words: &[u64], wave: QuadSamples, rules: Rules, listed: bool) {
     let mut marks = space::for_words();
-    let verdict = verdict::check(words, wave, &mut marks);
+    let verdict = verdict::check(words, wave, rules, &mut marks);
     let number = verdict.refusal.number;
     if number == 0 {
-        say_accepted(words.len(), wave);
+        say_accepted(words.len(), wave, rules);
         told::ends(told::ACCEPTED, 0);
         return;
     }
-    say_refused(words, verdict.refusal, verdict.place, listed);
+    say_refused(words, verdict, listed, rules);
     told::ends(told::REFUSED, number);
 }
 
@@ -86,12 +93,12 @@ fn status_of(end: Refusal) -> u64 {
     }
 }
 
-fn say_run(words: &[u64], trace: &[u64], answer: Answer, listed: bool) {
+fn say_run(words: &[u64], trace: &[u64], answer: Answer, listed: bool, rules: Rules) {
     say_end(answer.end);
-    say_place(words, answer.end, answer.state.core.address, listed);
+    say_place(words, answer.end, answer.state.core.address, listed, rules);
     let state = answer.state;
     say_state(state);
-    say_trace(trace);
+    say_trace(trace, rules);
 }
 
 fn say_run_by_name(words: &[u64], trace: &[u64], answer: Answer, asked: Asked, listed: bool) {
@@ -103,6 +110,7 @@ fn say_run_by_name(words: &[u64], trace: &[u64], answer: Answer, asked: Asked, l
     }
     file::say_member(b"words", words.len() as u64);
     file::say_member(b"wave", asked.wave.0);
+    file::say_firmware(asked.rules);
     let state = answer.state;
     by_name::say_state(state);
     file::say_key(b"trace");
@@ -122,7 +130,7 @@ fn tell(words: &[u64], trace: &[u64], answer: Answer, asked: Asked, listed: bool
         told::ends(status, 0);
         return;
     }
-    say_run(words, trace, answer, listed);
+    say_run(words, trace, answer, listed, asked.rules);
     told::ends(status, answer.end.number);
 }
 
@@ -130,6 +138,7 @@ fn rehearse(words: &[u64], messages: &[u8], trace: &mut [u64], asked: Asked, lis
     let answer = rehearsal::run(
         words,
         asked.wave,
+        asked.rules,
         messages,
         (asked.triggers & 0xffff_ffff) as u32,
         trace,

@@ -15,7 +15,7 @@ fn give(words: &[u64], asked: Asked, listed: bool) {
     let command = asked.command;
     match command {
         asked::LIST => answer::list(words, asked),
-        asked::CHECK => answer::check(words, asked.wave, listed),
+        asked::CHECK => answer::check(words, asked.wave, asked.rules, listed),
         asked::WORDS => answer::words(words, asked),
         _ => answer::run(words, asked, listed),
     }
@@ -32,9 +32,9 @@ fn without_words(asked: Asked) {
 // What `words` reads is a listing, whatever its name.
 fn find(asked: Asked, words: &mut [u64], line: &mut [u8]) -> Found {
     if asked.command == asked::WORDS {
-        return listing_of(asked.file, words, line);
+        return listing_of(asked.file, asked.rules, words, line);
     }
-    words_of(asked.file, asked.hex, words, line)
+    words_of(asked.file, asked.hex, asked.rules, words, line)
 }
 
 fn serve(asked: Asked) {

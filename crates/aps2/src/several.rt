@@ -5,7 +5,6 @@ use crate::answer::say_bad_listing_by_name;
 use crate::space;
 use files::input::Found;
 use files::input::words_of;
-use instruction::QuadSamples;
 use json::file;
 use report::words::line_of;
 use report::words::say_bit;
@@ -120,7 +119,7 @@ fn line_in(verdict: Verdict) -> u64 {
     line_of(verdict.place.0)
 }
 
-fn say_verdict_by_name(n: u64, wave: QuadSamples, verdict: Verdict, listed: bool) {
+fn say_verdict_by_name(n: u64, asked: Asked, verdict: Verdict, listed: bool) {
     file::say_member(b"number", verdict.refusal.number);
     file::say_member(b"place", verdict.place.0);
     file::say_member(b"bit", verdict.refusal.bit);
@@ -128,7 +127,8 @@ fn say_verdict_by_name(n: u64, wave: QuadSamples, verdict: Verdict, listed: bool
         file::say_member(b"line", line_in(verdict));
     }
     file::say_member(b"words", n);
-    file::say_member(b"wave", wave.0);
+    file::say_member(b"wave", asked.wave.0);
+    file::say_firmware(asked.rules);
     file::end();
 }
 
@@ -142,12 +142,12 @@ fn status_of(number: u64) -> u64 {
 
 fn judge(words: &[u64], asked: Asked, argument: usize, listed: bool) -> u64 {
     let mut marks = space::for_words();
-    let verdict = verdict::check(words, asked.wave, &mut marks);
+    let verdict = verdict::check(words, asked.wave, asked.rules, &mut marks);
     let status = status_of(verdict.refusal.number);
     let n = words.len() as u64;
     if asked.json {
         file::begin(argument, status);
-        say_verdict_by_name(n, asked.wave, verdict, listed);
+        say_verdict_by_name(n, asked, verdict, listed);
         return status;
     }
     say_name(argument);
@@ -159,7 +159,7 @@ fn judge(words: &[u64], asked: Asked, argument: usize, listed: bool) -> u64 {
 fn check_file(asked: Asked, argument: usize) -> u64 {
     let mut words = space::for_words();
     let mut line = io::buffer();
-    let found = words_of(argument, asked.hex, &mut words, &mut line);
+    let found = words_of(argument, asked.hex, asked.rules, &mut words, &mut line);
     let n = found.count;
     if !found.good {
         say_no_answer(asked, argument);

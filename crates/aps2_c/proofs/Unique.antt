@@ -3,6 +3,7 @@
 use mathlib.Core.Path.{_≡_, sym, ap, _∙_}
 use mathlib.Core.List.{List, [], _∷_}
 use Prim.Native.Nat.{ℕ}
+use Rattle.instruction.specs.declared.Rules.{Rules}
 use Rattle.reader.specs.declared.Reading.{Reading}
 use Rattle.writer.specs.declared.Written.{Written}
 use Rattle.jumps.specs.State.{Did}
@@ -25,10 +26,10 @@ pub one-answer-aps2-run : (d : Did) (before : List ℕ) {r r′ : ℕ} {after af
     → (r ≡ r′) × (answer ≡ answer′) × (after ≡ after′)
 one-answer-aps2-run d before p q = (p .number ∙ sym (q .number), p .answer ∙ sym (q .answer), p .trace .trace ∙ sym (q .trace .trace))
 
-pub one-answer-aps2-check : (wave : ℕ) (words before : List ℕ) {r r′ : ℕ} {after after′ place place′ : List ℕ} → Checked wave words before after place r → Checked wave words before after′ place′ r′
+pub one-answer-aps2-check : (rules : Rules) (wave : ℕ) (words before : List ℕ) {r r′ : ℕ} {after after′ place place′ : List ℕ} → Checked rules wave words before after place r → Checked rules wave words before after′ place′ r′
     → (r ≡ r′) × (place ≡ place′) × (after ≡ after′)
-one-answer-aps2-check wave words before p q =
-    let o = one-answer-check wave words before (p .verdict) (q .verdict) in (
+one-answer-aps2-check rules wave words before p q =
+    let o = one-answer-check rules wave words before (p .verdict) (q .verdict) in (
       ap (λ (v : Verdict). v .refusal .number) (o .0),
       p .place ∙ ap (λ (v : Verdict). v .place .0 ∷ v .refusal .bit ∷ []) (o .0) ∙ sym (q .place),
       o .1,
@@ -37,10 +38,10 @@ one-answer-aps2-check wave words before p q =
 pub one-answer-aps2-listing : (text before : List ℕ) {r r′ : ℕ} {after after′ : List ℕ} → Listed text before after r → Listed text before after′ r′ → (r ≡ r′) × (after ≡ after′)
 one-answer-aps2-listing text before p q = (p .size ∙ sym (q .size), p .out ∙ sym (q .out))
 
-pub one-answer-aps2-read-listing : (text before : List ℕ) {r r′ : ℕ} {after after′ told told′ : List ℕ} → ListingRead text before after told r → ListingRead text before after′ told′ r′
+pub one-answer-aps2-read-listing : (rules : Rules) (text before : List ℕ) {r r′ : ℕ} {after after′ told told′ : List ℕ} → ListingRead rules text before after told r → ListingRead rules text before after′ told′ r′
     → (r ≡ r′) × (told ≡ told′) × (after ≡ after′)
-one-answer-aps2-read-listing text before p q =
-    let o = one-answer-read-listing text before (p .reads) (q .reads) in (
+one-answer-aps2-read-listing rules text before p q =
+    let o = one-answer-read-listing rules text before (p .reads) (q .reads) in (
       ap (λ (t : ReadBack). t .number) (o .0),
       p .told ∙ ap (λ (t : ReadBack). t .line ∷ t .count ∷ []) (o .0) ∙ sym (q .told),
       o .1,

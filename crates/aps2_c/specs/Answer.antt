@@ -4,6 +4,7 @@ use mathlib.Core.Path.{_≡_}
 use mathlib.Core.List.{List, [], _∷_}
 use Prim.Native.Nat.{ℕ, zero, suc}
 use lib.ListN.{getD}
+use Rattle.instruction.specs.declared.Rules.{Rules}
 use Rattle.sequence.specs.Bounds.{stackDepth}
 use Rattle.dispatch.specs.Engines.{engineCount}
 use Rattle.jumps.specs.State.{Did}
@@ -46,15 +47,15 @@ pub record Ran (d : Did) (before after given : List ℕ) (r : ℕ) : Type 0 wher
   pub trace : Rehearsed d before after (answerFrom d)
 
 -- what `aps2_check` answers, and what it leaves in the marks and in the place: the bit stands behind it
-pub record Checked (wave : ℕ) (words before after given : List ℕ) (r : ℕ) : Type 0 where
+pub record Checked (rules : Rules) (wave : ℕ) (words before after given : List ℕ) (r : ℕ) : Type 0 where
   pub at : ℕ
   pub bit : ℕ
   pub place : given ≡ at ∷ bit ∷ []
-  pub verdict : CheckIs wave words before (verdict (record { number = r; bit = bit }) at) after
+  pub verdict : CheckIs rules wave words before (verdict (record { number = r; bit = bit }) at) after
 
 -- what `aps2_read_listing` answers, and what it leaves in the words and tells: line, and how many words
-pub record ListingRead (text before after given : List ℕ) (r : ℕ) : Type 0 where
+pub record ListingRead (rules : Rules) (text before after given : List ℕ) (r : ℕ) : Type 0 where
   pub line : ℕ
   pub count : ℕ
   pub told : given ≡ line ∷ count ∷ []
-  pub reads : ReadsBack text before after (record { number = r; line = line; count = count })
+  pub reads : ReadsBack rules text before after (record { number = r; line = line; count = count })

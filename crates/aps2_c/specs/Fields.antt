@@ -10,6 +10,7 @@ use Rattle.instruction.specs.Bits.{pick, allFit}
 use Rattle.instruction.specs.Table.{engineSelect, writeFlag, codeOf, lastCode, valuesOf, bodyOf}
 use Rattle.instruction.specs.Form.{filled}
 use Rattle.instruction.specs.declared.Instruction.{Instruction}
+use Rattle.instruction.specs.declared.Rules.{Rules}
 use Rattle.instruction.specs.declared.Body.{Body}
 use Rattle.instruction.specs.declared.Body.the-variants.{Wait, Sync, Noop}
 use Rattle.reader.specs.Reading.{refusalOf, numberOf}
@@ -67,10 +68,10 @@ abbrev pub asked : List ℕ → Instruction
 asked fs = record { engine = getD fs 1 0; write = getD fs 2 0; body = bodyOf (getD fs 0 0) (valuesAsked fs) }
 
 -- "a code that is none is 10; anything but zero past the fields its name has is 23, and 23 is tested first"
-unfoldable pub wishOf : List ℕ → Written
-wishOf fs =
+unfoldable pub wishOf : Rules → List ℕ → Written
+wishOf rules fs =
     pick (filledPast false (length (numbersOf (asked fs .body))) 0 (valuesAsked fs)) (notWritten 23)
-    (pick (isName (getD fs 0 0)) (writtenOf (asked fs))
+    (pick (isName (getD fs 0 0)) (writtenOf rules (asked fs))
     (pick (allFit (engineSelect ∷ writeFlag ∷ []) (getD fs 1 0 ∷ getD fs 2 0 ∷ [])) (notWritten 10) (notWritten 23)))
 
 -- what `aps2_write` answers

@@ -8,6 +8,7 @@ ghost use Rattle.buffer.specs.Put.{Fits, Put};
 ghost use Rattle.jumps.specs.State.{fixedIn};
 ghost use Rattle.rehearsal.specs.Run.{rehearse};
 ghost use Rattle.listing.specs.Listing.{listingOf, Listed};
+ghost use Rattle.aps2_c.specs.Firmware.{rulesOf};
 ghost use Rattle.aps2_c.specs.Answer.{conditionOf, flatWith, Ran, Checked, ListingRead};
 ghost use Rattle.aps2_c.specs.Fields.{numbersOf, fieldsOf, Read, isName, filledPast, valuesAsked, wishOf, Wrote};
 use dispatch::Engines;
@@ -15,6 +16,7 @@ use instruction::Body;
 use instruction::Instruction;
 use instruction::QuadSamples;
 use instruction::Refusal;
+use instruction::Rules;
 use jumps::Condition;
 use laid::fields::body_of;
 use laid::widths::header_fits;
@@ -38,6 +40,16 @@ impl Lent {
 
     // Eleven numbers of the core and the end, two counts for each engine, and the two halves of each entry of the stack.
     pub const ANSWER: usize = 11 + 2 * Engines::COUNT + 2 * (Sequence::STACK as usize);
+}
+
+// The firmware that a number of C's means: 0 is current, anything else is older.
+fn rules_of(firmware: u64) -> Rules
+    ensures { λ r. ⌜ r ≡ rulesOf firmware ⌝ }
+{
+    if firmware == 0 {
+        return Rules::CURRENT;
+    }
+    Rules::OLDER
 }
 
 fn fields_of(i: Instruction) -> [u64; Lent::FIELDS]
@@ -74,11 +86,16 @@ fn fields_of(i: Instruction) -> [u64; Lent::FIELDS]
 }
 
 #[no_mangle]
-pub extern "C" fn aps2_read(word: u64, fields: &mut [u64; Lent::FIELDS], bit: &mut [u64; 1]) -> u64
-    ensures { λ r. ⌜ Read (readingOf word) r (now (fields .exit)) (now (bit .exit)) ⌝ }
+pub extern "C" fn aps2_read(
+    word: u64,
+    firmware: u64,
+    fields: &mut [u64; Lent::FIELDS],
+    bit: &mut [u64; 1],
+) -> u64
+    ensures { λ r. ⌜ Read (readingOf (rulesOf firmware) word) r (now (fields .exit)) (now (bit .exit)) ⌝ }
 {
     *bit = [0];
-    let reading = read(word);
+    let reading = read(word, rules_of(firmware));
     match reading {
         Reading::Accepted(i) => {
             *fields = fields_of(i);
@@ -130,8 +147,8 @@ fn is_name(code: u64) -> bool
     (code <= Body::PREFETCH) | (code == Body::NOOP)
 }
 
-fn wish(fields: &[u64; Lent::FIELDS]) -> Written
-    ensures { λ r. ⌜ r ≡ wishOf (now (fields .entry)) ⌝ }
+fn wish(fields: &[u64; Lent::FIELDS], rules: Rules) -> Written
+    ensures { λ r. ⌜ r ≡ wishOf rules (now (fields .entry)) ⌝ }
 {
     let code = fields[0];
     let engine = fields[1];
@@ -144,11 +161,12 @@ fn wish(fields: &[u64; Lent::FIELDS]) -> Written
         };
     }
     if is_name(code) {
-        return write(Instruction {
+        let i = Instruction {
             engine,
             write: flag,
             body,
-        });
+        };
+        return write(i, rules);
     }
     if header_fits(engine, flag) {
         return Written {
@@ -163,10 +181,14 @@ fn wish(fields: &[u64; Lent::FIELDS]) -> Written
 }
 
 #[no_mangle]
-pub extern "C" fn aps2_write(fields: &[u64; Lent::FIELDS], word: &mut [u64; 1]) -> u64
-    ensures { λ r. ⌜ Wrote (wishOf (now (fields .entry))) r (now (word .exit)) ⌝ }
+pub extern "C" fn aps2_write(
+    fields: &[u64; Lent::FIELDS],
+    firmware: u64,
+    word: &mut [u64; 1],
+) -> u64
+    ensures { λ r. ⌜ Wrote (wishOf (rulesOf firmware) (now (fields .entry))) r (now (word .exit)) ⌝ }
 {
-    let written = wish(fields);
+    let written = wish(fields, rules_of(firmware));
     *word = [written.word];
     written.number
 }
@@ -221,12 +243,13 @@ fn flat(condition: u64, a: Answer) -> [u64; Lent::ANSWER]
 pub extern "C" fn aps2_check(
     words: &[u64],
     wave: u64,
+    firmware: u64,
     marks: &mut [u64],
     place: &mut [u64; 2],
 ) -> u64
-    ensures { λ r. ⌜ Checked wave (now (words .entry)) (now (marks .entry)) (now (marks .exit)) (now (place .exit)) r ⌝ }
+    ensures { λ r. ⌜ Checked (rulesOf firmware) wave (now (words .entry)) (now (marks .entry)) (now (marks .exit)) (now (place .exit)) r ⌝ }
 {
-    let v = check(words, QuadSamples(wave), marks);
+    let v = check(words, QuadSamples(wave), rules_of(firmware), marks);
     *place = [v.place.0, v.refusal.bit];
     v.refusal.number
 }
@@ -235,16 +258,25 @@ pub extern "C" fn aps2_check(
 pub extern "C" fn aps2_run(
     words: &[u64],
     wave: u64,
+    firmware: u64,
     messages: &[u8],
     triggers: u32,
     trace: &mut [u64],
     budget: u64,
     answer: &mut [u64; Lent::ANSWER],
 ) -> u64
-    ensures { λ r. ⌜ Ran (rehearse budget (fixedIn (words .entry) (messages .entry) (trace .entry) (record { wave = record { 0 = wave }; triggers = triggers })))
+    ensures { λ r. ⌜ Ran (rehearse budget (fixedIn (words .entry) (messages .entry) (trace .entry) (record { wave = record { 0 = wave }; rules = rulesOf firmware; triggers = triggers })))
         (now (trace .entry)) (now (trace .exit)) (now (answer .exit)) r ⌝ }
 {
-    let a = run(words, QuadSamples(wave), messages, triggers, trace, budget);
+    let a = run(
+        words,
+        QuadSamples(wave),
+        rules_of(firmware),
+        messages,
+        triggers,
+        trace,
+        budget,
+    );
     let state = a.state;
     let core = state.core;
     let condition = core.condition;
@@ -253,17 +285,22 @@ pub extern "C" fn aps2_run(
 }
 
 #[no_mangle]
-pub extern "C" fn aps2_listing(bytes: &[u8], out: &mut [u8]) -> usize
-    ensures { λ r. ⌜ Listed (listingOf (now (bytes .entry))) (now (out .entry)) (now (out .exit)) r ⌝ }
+pub extern "C" fn aps2_listing(bytes: &[u8], firmware: u64, out: &mut [u8]) -> usize
+    ensures { λ r. ⌜ Listed (listingOf (rulesOf firmware) (now (bytes .entry))) (now (out .entry)) (now (out .exit)) r ⌝ }
 {
-    list(bytes, out)
+    list(bytes, rules_of(firmware), out)
 }
 
 #[no_mangle]
-pub extern "C" fn aps2_read_listing(text: &[u8], words: &mut [u64], told: &mut [u64; 2]) -> u64
-    ensures { λ r. ⌜ ListingRead (now (text .entry)) (now (words .entry)) (now (words .exit)) (now (told .exit)) r ⌝ }
+pub extern "C" fn aps2_read_listing(
+    text: &[u8],
+    firmware: u64,
+    words: &mut [u64],
+    told: &mut [u64; 2],
+) -> u64
+    ensures { λ r. ⌜ ListingRead (rulesOf firmware) (now (text .entry)) (now (words .entry)) (now (words .exit)) (now (told .exit)) r ⌝ }
 {
-    let read = read_listing(text, words);
+    let read = read_listing(text, rules_of(firmware), words);
     *told = [read.line, read.count];
     read.number
 }

@@ -4,6 +4,7 @@ ghost use Prim.Native.Nat.{_+_, _≤_, _<_};
 ghost use lib.ListN.{length};
 ghost use Rattle.instruction.specs.Word.{wordBytes};
 ghost use Rattle.listing.specs.Listing.{heardSize};
+use instruction::Rules;
 use libc::STDIN_FILENO;
 use listing::Listing;
 use listing::heard;
@@ -103,7 +104,7 @@ fn kept(first: Read) -> Read
 
 fn show(input: &[u8]) {
     let mut out = [0u8; Listing::PAGE];
-    let length = list(input, &mut out);
+    let length = list(input, Rules::CURRENT, &mut out);
     if length <= Listing::PAGE {
         told::say(&out[..length]);
         told::ends(told::ACCEPTED, 0);

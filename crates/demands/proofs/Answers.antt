@@ -16,10 +16,10 @@ pub one-answer-equation : OneEqual
 one-answer-equation A d r r′ p q = p ∙ sym q
 
 pub one-answer-read : OneRead
-one-answer-read word r r′ p q = p ∙ sym q
+one-answer-read rules word r r′ p q = p ∙ sym q
 
 pub one-answer-write : OneWrite
-one-answer-write i r r′ p q = p ∙ sym q
+one-answer-write rules i r r′ p q = p ∙ sym q
 
 pub one-answer-run : OneRun
 one-answer-run budget e before r r′ p q =
@@ -28,8 +28,8 @@ one-answer-run budget e before r r′ p q =
     λ i. (a i, t i)
 
 pub one-answer-check : OneCheck
-one-answer-check wave words marks r r′ p q =
-    let o = unique.one-answer-check wave words marks p q in
+one-answer-check rules wave words marks r r′ p q =
+    let o = unique.one-answer-check rules wave words marks p q in
     λ i. (o .0 i, o .1 i)
 
 pub one-answer-list : OneList
@@ -39,8 +39,8 @@ one-answer-list text before r r′ p q =
     λ i. (n i, o i)
 
 pub one-answer-read-listing : OneReadListing
-one-answer-read-listing text before r r′ p q =
-    let o = read-back.one-answer-read-listing text before p q in
+one-answer-read-listing rules text before r r′ p q =
+    let o = read-back.one-answer-read-listing rules text before p q in
     λ i. (o .0 i, o .1 i)
 
 pub one-answer-step : OneStep

@@ -7,9 +7,10 @@ use native.Mathlib.Omega.{arith}
 use native.Mathlib.Decide.{ℕ-discrete, decLt}
 use Rattle.instruction.specs.Bits.{pick, isSet}
 use Rattle.instruction.specs.Table.{wordBits, noopWord}
-use Rattle.instruction.specs.Form.{numbered, tellsBit, unflagged, noSuchOp, useless, tooShort, askew, wrongNco, widePhase, formOf}
+use Rattle.instruction.specs.Form.{numbered, tellsBit, unflagged, noSuchOp, useless, tooShort, askew, wrongNco, widePhase, wideCount, formOf}
 use Rattle.instruction.specs.Word.{codeIn, spelledBy}
 use Rattle.instruction.specs.declared.Instruction.{Instruction}
+use Rattle.instruction.specs.declared.Rules.{Rules}
 use Rattle.reader.specs.Masks.{hasUnnamed}
 use Rattle.reader.specs.Reading.{isNamed, isStray, kindOf, notItsOp, formIn, highestStray, refusedWith, readingOf, refusalOf}
 use Rattle.reader.proofs.Below.{Highest}
@@ -27,23 +28,24 @@ Quiet n = tellsBit n ≡ false
 pub says-none : (w n : ℕ) → Quiet n → SaysBit w (numbered n)
 says-none w n q = record { told = λ t. absurd (true≢false (sym t ∙ q)); none = λ _. refl }
 
-form-quiet : (i : Instruction) → Quiet (formOf i)
+form-quiet : (rules : Rules) (i : Instruction) → Quiet (formOf rules i)
 unfolding formOf
-form-quiet i =
+form-quiet rules i =
     picks Quiet (unflagged (i .write) (i .body)) (λ _. refl)
     (λ _. picks Quiet (noSuchOp (i .body)) (λ _. refl)
     (λ _. picks Quiet (useless (i .body)) (λ _. refl)
     (λ _. picks Quiet (tooShort (i .body)) (λ _. refl)
     (λ _. picks Quiet (askew (i .body)) (λ _. refl)
     (λ _. picks Quiet (wrongNco (i .body)) (λ _. refl)
-    (λ _. picks Quiet (widePhase (i .body)) (λ _. refl) (λ _. refl)))))))
+    (λ _. picks Quiet (widePhase (i .body)) (λ _. refl)
+    (λ _. picks Quiet (wideCount rules (i .body)) (λ _. refl) (λ _. refl))))))))
 
-named-quiet : (w : ℕ) → codeIn w < 13 → hasUnnamed w ≡ false → Quiet (formIn w)
-named-quiet w h u = by (notItsOp w) refl
+named-quiet : (rules : Rules) (w : ℕ) → codeIn w < 13 → hasUnnamed w ≡ false → Quiet (formIn rules w)
+named-quiet rules w h u = by (notItsOp w) refl
   where
-    by : (o : Bool) → notItsOp w ≡ o → Quiet (formIn w)
-    by true o = ap tellsBit (form-12 w h u o)
-    by false o = ap tellsBit (form-rest w h u o) ∙ form-quiet (spelledBy w)
+    by : (o : Bool) → notItsOp w ≡ o → Quiet (formIn rules w)
+    by true o = ap tellsBit (form-12 rules w h u o)
+    by false o = ap tellsBit (form-rest rules w h u o) ∙ form-quiet rules (spelledBy w)
 
 -- ---- the bit that is told
 
@@ -71,20 +73,20 @@ offends w u = of (stray-highest w u)
           kind = refl;
         }
 
-form-says : (w : ℕ) → SaysBit w (refusedWith w (formIn w))
-form-says w = record {
+form-says : (rules : Rules) (w : ℕ) → SaysBit w (refusedWith w (formIn rules w))
+form-says rules w = record {
   told = λ t. by t (decLt (codeIn w) 13) (hasUnnamed w) refl;
   none = λ q. ap (λ (b : Bool). pick b (highestStray w) 0) q;
 }
   where
-    by : tellsBit (formIn w) ≡ true → Dec (codeIn w < 13) → (u : Bool) → hasUnnamed w ≡ u → Offends w (refusedWith w (formIn w))
-    by t (no h) u p = absurd (true≢false (sym t ∙ ap tellsBit (form-10 w (omega arith))))
-    by t (yes h) true p = subst (Offends w) (sym (with-unnamed w h p)) (offends w p)
-    by t (yes h) false p = absurd (true≢false (sym t ∙ named-quiet w h p))
+    by : tellsBit (formIn rules w) ≡ true → Dec (codeIn w < 13) → (u : Bool) → hasUnnamed w ≡ u → Offends w (refusedWith w (formIn rules w))
+    by t (no h) u p = absurd (true≢false (sym t ∙ ap tellsBit (form-10 rules w (omega arith))))
+    by t (yes h) true p = subst (Offends w) (sym (with-unnamed rules w h p)) (offends w p)
+    by t (yes h) false p = absurd (true≢false (sym t ∙ named-quiet rules w h p))
 
 pub which-bit : WhichBit
-which-bit w = by (ℕ-discrete w noopWord)
+which-bit rules w = by (ℕ-discrete w noopWord)
   where
-    by : Dec (w ≡ noopWord) → SaysBit w (refusalOf (readingOf w))
-    by (yes e) = subst (SaysBit w) (refusal-noop w e) (says-none w 0 refl)
-    by (no h) = subst (SaysBit w) (refusal-form w h) (form-says w)
+    by : Dec (w ≡ noopWord) → SaysBit w (refusalOf (readingOf rules w))
+    by (yes e) = subst (SaysBit w) (refusal-noop rules w e) (says-none w 0 refl)
+    by (no h) = subst (SaysBit w) (refusal-form rules w h) (form-says rules w)

@@ -5,6 +5,7 @@ use mathlib.Core.List.{List}
 use Prim.Native.Nat.{ℕ, _<_}
 use native.Mathlib.Omega.{arith}
 use lib.ListN.{length}
+use Rattle.instruction.specs.declared.Rules.{Rules}
 use Rattle.sequence.specs.Bounds.{stackDepth}
 use Rattle.flow.specs.Walk.{Fault, past, full, empty}
 use Rattle.verdict.specs.Flow.{sound, faulty}
@@ -21,18 +22,18 @@ fault-number lim words number a (full _ _ _) z = omega arith
 fault-number lim words number a (empty _ _ _) z = omega arith
 
 -- where all words pass, none is refused
-none-refused : (wave : ℕ) (words : List ℕ) (v : Verdict) → ((a : ℕ) → a < length words → Passes wave words a) → WordsAre wave words v → v .refusal .number ≡ 0
-none-refused wave words v all w = ap (λ (x : Verdict). x .refusal .number) (one-words wave words w (passed all))
+none-refused : (rules : Rules) (wave : ℕ) (words : List ℕ) (v : Verdict) → ((a : ℕ) → a < length words → Passes rules wave words a) → WordsAre rules wave words v → v .refusal .number ≡ 0
+none-refused rules wave words v all w = ap (λ (x : Verdict). x .refusal .number) (one-words rules wave words w (passed all))
 
 pub refused-exactly : RefusedExactly
-refused-exactly wave words marks _ _ o (input h) = absurd (h (o .input))
-refused-exactly wave words marks _ v o (word _ w h) = absurd (h (none-refused wave words v (o .pass) w))
-refused-exactly wave words marks _ _ o (flow _ _ _ (sound none)) =
+refused-exactly rules wave words marks _ _ o (input h) = absurd (h (o .input))
+refused-exactly rules wave words marks _ v o (word _ w h) = absurd (h (none-refused rules wave words v (o .pass) w))
+refused-exactly rules wave words marks _ _ o (flow _ _ _ (sound none)) =
     record { refused = λ k a f. absurd (none k a f); fault = λ h. absurd (h refl); accepted = λ _. refl }
-refused-exactly wave words marks _ _ o (flow _ _ _ (faulty {number = k} {a = a} f l)) =
+refused-exactly rules wave words marks _ _ o (flow _ _ _ (faulty {number = k} {a = a} f l)) =
     record { refused = λ _ _ _. fault-number stackDepth words k a f; fault = λ _. record { fault = f; lowest = l }; accepted = λ none. absurd (none k a f) }
 
 pub marks-untouched : MarksUntouched
-marks-untouched wave words marks _ _ h (input _) = refl
-marks-untouched wave words marks _ _ h (word _ _ _) = refl
-marks-untouched wave words marks _ _ h (flow i all _ _) = absurd (h (record { input = i; pass = all }))
+marks-untouched rules wave words marks _ _ h (input _) = refl
+marks-untouched rules wave words marks _ _ h (word _ _ _) = refl
+marks-untouched rules wave words marks _ _ h (flow i all _ _) = absurd (h (record { input = i; pass = all }))

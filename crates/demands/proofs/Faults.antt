@@ -15,6 +15,7 @@ use Rattle.instruction.specs.Form.{numbered}
 use Rattle.instruction.specs.Word.{spelledBy}
 use Rattle.instruction.specs.declared.WordAddress.{WordAddress}
 use Rattle.instruction.specs.declared.Instruction.{Instruction}
+use Rattle.instruction.specs.declared.Rules.{Rules}
 use Rattle.instruction.specs.declared.Body.{Body}
 use Rattle.instruction.specs.declared.Body.the-variants as body
 use Rattle.sequence.specs.Bounds.{stackDepth, groupSize, budgetLimit}
@@ -101,10 +102,10 @@ data Fine (words : List ℕ) : Did → Type 0 where
   ends : {s : State} {n : ℕ} → NoFault n → Fine words (stop n s)
   goes : {s : State} {out : List ℕ} → WalksIn words s → Fine words (record { end = numbered 0; state = s; out = out })
 
-module _ (wave : ℕ) (words : List ℕ) (some : 0 < length words) (pass : (a : ℕ) → a < length words → Passes wave words a)
+module _ (rules : Rules) (wave : ℕ) (words : List ℕ) (some : 0 < length words) (pass : (a : ℕ) → a < length words → Passes rules wave words a)
     (none : (k a : ℕ) → Fault stackDepth words k a → ⊥) where
   inside : {a d : ℕ} {c : Bool} → Reached stackDepth words a d c → a < length words
-  inside {a = a} {d = d} {c = c} q = by (ℕ-discrete a (length words)) (within (targets wave words some pass) (walked q))
+  inside {a = a} {d = d} {c = c} q = by (ℕ-discrete a (length words)) (within (targets rules wave words some pass) (walked q))
     where
       by : Dec (a ≡ length words) → a ≤ length words → a < length words
       by (yes e) l = absurd (none 30 (length words) (past (subst (λ (z : ℕ). Reached stackDepth words z d c) e q)))
@@ -169,7 +170,7 @@ module _ (wave : ℕ) (words : List ℕ) (some : 0 < length words) (pass : (a : 
 
     -- ---- groups
 
-    module _ (st : Stands wave words a) where
+    module _ (st : Stands rules wave words a) where
       engine-same : isEngineWord (getD words a 0) ≡ isEngine (st .instruction .body)
       engine-same = engine-word (getD words a 0) ∙ ap isEngine (st .body)
 
@@ -284,7 +285,7 @@ module _ (wave : ℕ) (words : List ℕ) (some : 0 < length words) (pass : (a : 
         by true n = goes (to-goto w t o z)
         by false n = goes (next-passed w (subst UsesCondition (sym o) goto) n z)
 
-    module _ (st : Stands wave words (s .core .address .0)) where
+    module _ (st : Stands rules wave words (s .core .address .0)) where
       move : {b : Body} → st .instruction .body ≡ b → moveAt words (s .core .address .0) ≡ moveOf b
       move p = ap moveOf (st .body ∙ p)
 
@@ -320,16 +321,16 @@ module _ (wave : ℕ) (words : List ℕ) (some : 0 < length words) (pass : (a : 
 
 -- ---- the run
 
-module _ (e : Fixed) (some : 0 < length (e .words)) (pass : (a : ℕ) → a < length (e .words) → Passes (e .setting .wave .0) (e .words) a)
+module _ (e : Fixed) (some : 0 < length (e .words)) (pass : (a : ℕ) → a < length (e .words) → Passes (e .setting .rules) (e .setting .wave .0) (e .words) a)
     (none : (k a : ℕ) → Fault stackDepth (e .words) k a → ⊥) where
   step-fine : (s : State) → WalksIn (e .words) s → Fine (e .words) (stepOf e s)
   step-fine s w =
-      let l = inside (e .setting .wave .0) (e .words) some pass none (w .at) in
-      let st = stands (e .setting .wave .0) (e .words) (s .core .address .0) (pass (s .core .address .0) l) in
-      let b = not-broken (e .setting .wave .0) (e .words) some pass none w st in
+      let l = inside (e .setting .rules) (e .setting .wave .0) (e .words) some pass none (w .at) in
+      let st = stands (e .setting .rules) (e .setting .wave .0) (e .words) (s .core .address .0) (pass (s .core .address .0) l) in
+      let b = not-broken (e .setting .rules) (e .setting .wave .0) (e .words) some pass none w st in
       subst (Fine (e .words))
       (sym (step-accepted e s (st .instruction) l (st .reads) ∙ execute-acts e s (st .instruction) (st .placed) b))
-      (act-fine (e .setting .wave .0) (e .words) some pass none e s w st (st .instruction .body) refl)
+      (act-fine (e .setting .rules) (e .setting .wave .0) (e .words) some pass none e s w st (st .instruction .body) refl)
 
   run-fine : (budget : ℕ) (s : State) → WalksIn (e .words) s → NoFault (runOf budget e s .end .number)
   unfolding runOf
@@ -346,7 +347,7 @@ module _ (e : Fixed) (some : 0 < length (e .words)) (pass : (a : ℕ) → a < le
   begins : WalksIn (e .words) fresh
   begins = record { at = start; stack = λ k l. absurd (omega arith); long = refl; group = λ l. absurd (omega arith) }
 
-never : (e : Fixed) (budget : ℕ) (marks marks′ : List ℕ) (v : Verdict) → CheckIs (e .setting .wave .0) (e .words) marks v marks′ → v .refusal .number ≡ 0
+never : (e : Fixed) (budget : ℕ) (marks marks′ : List ℕ) (v : Verdict) → CheckIs (e .setting .rules) (e .setting .wave .0) (e .words) marks v marks′ → v .refusal .number ≡ 0
     → budget ≤ budgetLimit → NoFault (rehearse budget e .end .number)
 never e budget marks _ v (input h) z l = absurd (h z)
 never e budget marks _ v (word _ _ h) z l = absurd (h z)
@@ -359,5 +360,6 @@ never e budget marks _ v (flow i all _ f) z l =
     no-fault (faulty {number = k} {a = a} g _) z = absurd (fault-number stackDepth (e .words) k a g z)
 
 pub accepted-never-faults : AcceptedNeverFaults
-accepted-never-faults wave words marks marks′ v c z e budget p q =
-    never e budget marks marks′ v (subst (λ (n : ℕ). CheckIs n (e .words) marks v marks′) (sym q) (subst (λ (l : List ℕ). CheckIs wave l marks v marks′) (sym p) c)) z
+accepted-never-faults rules wave words marks marks′ v c z e budget p q o =
+    never e budget marks marks′ v (subst (λ (k : Rules). CheckIs k (e .setting .wave .0) (e .words) marks v marks′) (sym o)
+    (subst (λ (n : ℕ). CheckIs rules n (e .words) marks v marks′) (sym q) (subst (λ (l : List ℕ). CheckIs rules wave l marks v marks′) (sym p) c))) z

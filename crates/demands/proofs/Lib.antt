@@ -14,3 +14,4 @@ pub mod Worked
 pub mod Answers
 pub mod Shown
 pub mod Listing
+pub mod Firmware

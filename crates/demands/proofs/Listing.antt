@@ -15,6 +15,7 @@ use Rattle.instruction.specs.Bits.{pick}
 use Rattle.instruction.specs.Table.{bodyOf}
 use Rattle.instruction.specs.Word.{fitsOf}
 use Rattle.instruction.specs.declared.Instruction.{Instruction}
+use Rattle.instruction.specs.declared.Rules.{Rules}
 use Rattle.instruction.specs.declared.Body.{Body}
 use Rattle.instruction.specs.declared.Body.the-variants.{Waveform, Marker, Wait, LoadRepeat, Repeat, Cmp, Goto, Call, Return, Sync, Modulator, LoadCmp, Prefetch, Noop}
 use Rattle.reader.specs.Reading.{readingOf}
@@ -46,7 +47,7 @@ use Rattle.demands.proofs.Shown.{shownValues, entries-shown, texts-show
 use Rattle.text.proofs.Bools.{both, never}
 
 pub listing-is-listed : ListingIsListed
-listing-is-listed bytes e l = listing-lines bytes e l
+listing-is-listed rules bytes e l = listing-lines rules bytes e l
 
 -- ---- the numbers of a line
 
@@ -96,7 +97,7 @@ clean-line : (a : ℕ) (i : Instruction) → allClean (number a ∷ entriesOf i)
 clean-line a i = ap allClean (entries-shown i) ∙ rw (clean-names (i .body)) (clean-numbers (shownValues i))
 
 -- the line of an instruction that fits is read as what the writer writes for it
-module _ (a : ℕ) (h : a < numbers) (i : Instruction) (t : fitsOf i ≡ true) where
+module _ (rules : Rules) (a : ℕ) (h : a < numbers) (i : Instruction) (t : fitsOf i ≡ true) where
   abbrev line : Line
   line = record { first = number a; rest = entriesOf i }
 
@@ -123,62 +124,62 @@ module _ (a : ℕ) (h : a < numbers) (i : Instruction) (t : fitsOf i ≡ true) w
       ap (λ (x : Instruction). eqb (suc (length (map decimal vs))) (length (entriesOf x)) && allNumbers (map decimal vs)) again
       ∙ rw (all-numbers (all-small i t), eq-eqb (suc (length (map decimal vs))) (length (entriesOf i)) (ap suc (length-map vs decimal) ∙ sym (entries-length i)))
 
-  pub line-written : lineRead a row ≡ writtenOf i
+  pub line-written : lineRead rules a row ≡ writtenOf rules i
   unfolding lineRead
   line-written =
-      ap (fieldsRead a true) fields
-      ∙ sym (fields-known a (decimal a) (letters (nameOf (i .body))) (map decimal vs) (number-back a h) (subst (λ (k : ℕ). k < nameCount) (sym found) (s .row)))
-      ∙ ap (λ (k : ℕ). pick (not (hasFields k (map decimal vs))) (notWritten 61) (pick (not (eqb (value (decimal a)) a)) (notWritten 62) (writtenOf (instructionOf k (map value (map decimal vs)))))) found
-      ∙ sym (known-written (rowOf (i .body)) (value (decimal a)) a (map decimal vs) has (decimal-value a))
-      ∙ ap writtenOf again
+      ap (fieldsRead rules a true) fields
+      ∙ sym (fields-known rules a (decimal a) (letters (nameOf (i .body))) (map decimal vs) (number-back a h) (subst (λ (k : ℕ). k < nameCount) (sym found) (s .row)))
+      ∙ ap (λ (k : ℕ). pick (not (hasFields k (map decimal vs))) (notWritten 61) (pick (not (eqb (value (decimal a)) a)) (notWritten 62) (writtenOf rules (instructionOf k (map value (map decimal vs)))))) found
+      ∙ sym (known-written rules (rowOf (i .body)) (value (decimal a)) a (map decimal vs) has (decimal-value a))
+      ∙ ap (writtenOf rules) again
 
-  pub word-written : wordIn row ≡ writtenOf i .word
+  pub word-written : wordIn rules row ≡ writtenOf rules i .word
   unfolding wordIn
   word-written =
-      ap (λ (fs : List (List ℕ)). writtenOf (wishIn fs) .word) fields
-      ∙ ap (λ (k : ℕ). writtenOf (instructionOf k (map value (map decimal vs))) .word) found
-      ∙ ap (λ (x : Instruction). writtenOf x .word) again
+      ap (λ (fs : List (List ℕ)). writtenOf rules (wishIn fs) .word) fields
+      ∙ ap (λ (k : ℕ). writtenOf rules (instructionOf k (map value (map decimal vs))) .word) found
+      ∙ ap (λ (x : Instruction). writtenOf rules x .word) again
 
-fits-of : (i : Instruction) → askedOf i ≡ 0 → fitsOf i ≡ true
-fits-of i e = by (fitsOf i) refl
+fits-of : (rules : Rules) (i : Instruction) → askedOf rules i ≡ 0 → fitsOf i ≡ true
+fits-of rules i e = by (fitsOf i) refl
   where
     by : (t : Bool) → fitsOf i ≡ t → fitsOf i ≡ true
     by true f = f
-    by false f = absurd (omega (arith, e, asked-wide i f))
+    by false f = absurd (omega (arith, e, asked-wide rules i f))
 
-asked-zero : (i : Instruction) → writtenOf i .number ≡ 0 → askedOf i ≡ 0
+asked-zero : (rules : Rules) (i : Instruction) → writtenOf rules i .number ≡ 0 → askedOf rules i ≡ 0
 unfolding writtenOf
-asked-zero i e = e
+asked-zero rules i e = e
 
 -- the lines of words that pass
-record Back (room a : ℕ) (words : List ℕ) (rows : List Row) : Type 0 where
-  told : toldOf room a rows ≡ record { number = 0; line = 0; count = a + length words }
-  same : map wordIn rows ≡ map zeroed words
+record Back (rules : Rules) (room a : ℕ) (words : List ℕ) (rows : List Row) : Type 0 where
+  told : toldOf rules room a rows ≡ record { number = 0; line = 0; count = a + length words }
+  same : map (wordIn rules) rows ≡ map zeroed words
 
-lines-read : (room a : ℕ) (words : List ℕ) → AllPass words → a + length words ≤ room → room < 2 ^ 64 → Back room a words (rowsIn (textOf (wordLines a words)))
-lines-read room a [] p h l = record { told = told-none room a ∙ ap (λ (n : ℕ). record { number = 0; line = 0; count = n }) (none a); same = refl }
+lines-read : (rules : Rules) (room a : ℕ) (words : List ℕ) → AllPass rules words → a + length words ≤ room → room < 2 ^ 64 → Back rules room a words (rowsIn (textOf (wordLines rules a words)))
+lines-read rules room a [] p h l = record { told = told-none rules room a ∙ ap (λ (n : ℕ). record { number = 0; line = 0; count = n }) (none a); same = refl }
   where
     none : (a : ℕ) → a ≡ a + 0
     none a = omega arith
-lines-read room a (w ∷ words) p h l =
+lines-read rules room a (w ∷ words) p h l =
     let i = p .0 .instruction in
-    let written : writtenOf i ≡ record { number = 0; word = zeroed w } = read-write w (p .0 .small) i (p .0 .reads) in
-    let fit : fitsOf i ≡ true = fits-of i (asked-zero i (ap (λ (x : Written). x .number) written)) in
+    let written : writtenOf rules i ≡ record { number = 0; word = zeroed w } = read-write rules w (p .0 .small) i (p .0 .reads) in
+    let fit : fitsOf i ≡ true = fits-of rules i (asked-zero rules i (ap (λ (x : Written). x .number) written)) in
     let row : Row = record { bytes = bare (record { first = number a; rest = entriesOf i }); ended = true } in
-    let rest : List Row = rowsIn (textOf (wordLines (a + 1) words)) in
-    let rows : rowsIn (textOf (wordLines a (w ∷ words))) ≡ row ∷ rest =
-    ap (λ (x : Reading). rowsIn (lineText (number a) (entriesIn x) ++ textOf (wordLines (a + 1) words))) (p .0 .reads)
-    ∙ line-back (record { first = number a; rest = entriesOf i }) (textOf (wordLines (a + 1) words)) (clean-line a i) in
-    let read : lineRead a row ≡ record { number = 0; word = zeroed w } = line-written a (omega arith) i fit ∙ written in
-    let good : lineNumber room a row ≡ 0 = sym (number-none room a row (ap (λ (x : Written). x .number) read) (omega arith)) in
-    let ih = lines-read room (a + 1) words (p .1) (omega arith) l in
+    let rest : List Row = rowsIn (textOf (wordLines rules (a + 1) words)) in
+    let rows : rowsIn (textOf (wordLines rules a (w ∷ words))) ≡ row ∷ rest =
+    ap (λ (x : Reading). rowsIn (lineText (number a) (entriesIn x) ++ textOf (wordLines rules (a + 1) words))) (p .0 .reads)
+    ∙ line-back (record { first = number a; rest = entriesOf i }) (textOf (wordLines rules (a + 1) words)) (clean-line a i) in
+    let read : lineRead rules a row ≡ record { number = 0; word = zeroed w } = line-written rules a (omega arith) i fit ∙ written in
+    let good : lineNumber rules room a row ≡ 0 = sym (number-none rules room a row (ap (λ (x : Written). x .number) read) (omega arith)) in
+    let ih = lines-read rules room (a + 1) words (p .1) (omega arith) l in
     record {
       told =
-          ap (toldOf room a) rows ∙ told-next room a row rest good ∙ ih .told
+          ap (toldOf rules room a) rows ∙ told-next rules room a row rest good ∙ ih .told
           ∙ ap (λ (n : ℕ). record { number = 0; line = 0; count = n }) (step a (length words));
       same =
-          ap (map wordIn) rows
-          ∙ ap₂ (λ (x : ℕ) (l : List ℕ). x ∷ l) (word-written a (omega arith) i fit ∙ ap (λ (x : Written). x .word) written) (ih .same);
+          ap (map (wordIn rules)) rows
+          ∙ ap₂ (λ (x : ℕ) (l : List ℕ). x ∷ l) (word-written rules a (omega arith) i fit ∙ ap (λ (x : Written). x .word) written) (ih .same);
     }
   where
     step : (a n : ℕ) → a + 1 + n ≡ a + suc n
@@ -193,20 +194,20 @@ body-of rest = ap rowsIn (drop-append-seam headerText rest)
 
 pub listed-read-back : ListedReadBack
 unfolding readBack
-listed-read-back words before after r p h l c =
-    let rest = textOf (wordLines 0 words) in
-    let k = lines-read (length before) 0 words p (omega (arith, h)) l in
+listed-read-back rules words before after r p h l c =
+    let rest = textOf (wordLines rules 0 words) in
+    let k = lines-read rules (length before) 0 words p (omega (arith, h)) l in
     let rows = body-of rest in
     let answer : r ≡ record { number = 0; line = 0; count = length words } =
     c .answer
-    ∙ ap (λ (t : Bool). pick t (toldOf (length before) 0 (bodyRows (listed words))) (refusedAt 60 1)) (headed rest)
-    ∙ ap (toldOf (length before) 0) rows
+    ∙ ap (λ (t : Bool). pick t (toldOf rules (length before) 0 (bodyRows (listed rules words))) (refusedAt 60 1)) (headed rest)
+    ∙ ap (toldOf rules (length before) 0) rows
     ∙ k .told
     ∙ ap (λ (n : ℕ). record { number = 0; line = 0; count = n }) (zero-add (length words)) in
-    let ws : wordsIn (listed words) ≡ map zeroed words = ap (map wordIn) rows ∙ k .same in (
+    let ws : wordsIn rules (listed rules words) ≡ map zeroed words = ap (map (wordIn rules)) rows ∙ k .same in (
       answer,
       c .words
-          ∙ ap (λ (t : ReadBack). pick (eqb (t .number) 0) (wordsIn (listed words) ++ drop (length (wordsIn (listed words))) before) before) answer
+          ∙ ap (λ (t : ReadBack). pick (eqb (t .number) 0) (wordsIn rules (listed rules words) ++ drop (length (wordsIn rules (listed rules words))) before) before) answer
           ∙ ap (λ (l : List ℕ). l ++ drop (length l) before) ws
           ∙ ap (λ (n : ℕ). map zeroed words ++ drop n before) (length-map words zeroed),
     )
@@ -218,24 +219,24 @@ row-name : (row : ℕ) (vs : List ℕ) → row < nameCount → letters (nameOf (
 row-name row vs h = same-text _ _ (all-below nameCount (λ k. sameText (letters (nameOf (bodyOf k vs))) (nameAt k)) refl row h)
 
 -- what number 0 says of a line's fields
-record Good (a : ℕ) (fs : List (List ℕ)) : Type 0 where
+record Good (rules : Rules) (a : ℕ) (fs : List (List ℕ)) : Type 0 where
   address : isNumber (getD fs 0 []) ≡ true
   two : 2 ≤ length fs
   known : rowNamed (getD fs 1 []) < nameCount
   shaped : hasFields (rowNamed (getD fs 1 [])) (drop 2 fs) ≡ true
   counted : value (getD fs 0 []) ≡ a
-  written : writtenOf (wishIn fs) .number ≡ 0
+  written : writtenOf rules (wishIn fs) .number ≡ 0
 
-good-fields : (a : ℕ) (fs : List (List ℕ)) → fieldsRead a true fs .number ≡ 0 → Good a fs
-good-fields a fs e = by (isNumber (getD fs 0 [])) refl (leb 2 (length fs)) refl (isKnown fs) refl (hasFields (rowNamed (getD fs 1 [])) (drop 2 fs)) refl (eqb (value (getD fs 0 [])) a) refl e
+good-fields : (rules : Rules) (a : ℕ) (fs : List (List ℕ)) → fieldsRead rules a true fs .number ≡ 0 → Good rules a fs
+good-fields rules a fs e = by (isNumber (getD fs 0 [])) refl (leb 2 (length fs)) refl (isKnown fs) refl (hasFields (rowNamed (getD fs 1 [])) (drop 2 fs)) refl (eqb (value (getD fs 0 [])) a) refl e
   where
     no : {A : Type 0} (n : ℕ) → suc n ≡ 0 → A
     no n q = absurd (omega arith)
 
     by : (p : Bool) → isNumber (getD fs 0 []) ≡ p → (q : Bool) → leb 2 (length fs) ≡ q → (k : Bool) → isKnown fs ≡ k
         → (s : Bool) → hasFields (rowNamed (getD fs 1 [])) (drop 2 fs) ≡ s → (c : Bool) → eqb (value (getD fs 0 [])) a ≡ c
-        → pick (not (p && (q && (not k || s)))) (notWritten 61) (pick (not c) (notWritten 62) (pick (not k) (notWritten 63) (writtenOf (wishIn fs)))) .number ≡ 0
-        → Good a fs
+        → pick (not (p && (q && (not k || s)))) (notWritten 61) (pick (not c) (notWritten 62) (pick (not k) (notWritten 63) (writtenOf rules (wishIn fs)))) .number ≡ 0
+        → Good rules a fs
     by true e1 true e2 true e3 true e4 true e5 z =
         record {
           address = e1;
@@ -253,10 +254,10 @@ good-fields a fs e = by (isNumber (getD fs 0 [])) refl (leb 2 (length fs)) refl 
     by false e1 q e2 k e3 s e4 c e5 z = no 60 z
 
 -- such fields are the texts of what the listing shows of the word
-good-texts : (a : ℕ) (fs : List (List ℕ)) → Good a fs → fs ≡ decimal a ∷ map entryText (entriesOf (wishIn fs))
-good-texts a [] g = absurd (omega (arith, g .two))
-good-texts a (f ∷ []) g = absurd (omega (arith, g .two))
-good-texts a (f ∷ n ∷ ns) g =
+good-texts : (rules : Rules) (a : ℕ) (fs : List (List ℕ)) → Good rules a fs → fs ≡ decimal a ∷ map entryText (entriesOf (wishIn fs))
+good-texts rules a [] g = absurd (omega (arith, g .two))
+good-texts rules a (f ∷ []) g = absurd (omega (arith, g .two))
+good-texts rules a (f ∷ n ∷ ns) g =
     let row = rowNamed n in
     let vs = map value ns in
     let i = instructionOf row vs in
@@ -267,61 +268,61 @@ good-texts a (f ∷ n ∷ ns) g =
     let numbered : ns ≡ map decimal (shownValues i) = sym (ap (map decimal) shown ∙ decimals-back ns (c .1)) in
     (λ j. first j ∷ called j ∷ numbered j) ∙ ap (λ (l : List (List ℕ)). decimal a ∷ l) (sym (texts-shown i))
 
-module _ (room a : ℕ) (p : List ℕ) where
+module _ (rules : Rules) (room a : ℕ) (p : List ℕ) where
   abbrev read : Row
   read = record { bytes = p; ended = true }
 
-  pub line-text : lineNumber room a read ≡ 0 → p ++ (lineFeed ∷ []) ≡ lineText (number a) (entriesIn (readingOf (wordIn read)))
+  pub line-text : lineNumber rules room a read ≡ 0 → p ++ (lineFeed ∷ []) ≡ lineText (number a) (entriesIn (readingOf rules (wordIn rules read)))
   unfolding lineRead wordIn
   line-text e =
       let fs = cut tab p in
-      let g = good-fields a fs (good-read room a read e) in
+      let g = good-fields rules a fs (good-read rules room a read e) in
       let i = wishIn fs in
-      let back : readingOf (writtenOf i .word) ≡ Accepted i = write-read i (g .written) in
-      ap (λ (t : List ℕ). t ++ (lineFeed ∷ [])) (sym (joined-cut tab p) ∙ ap (joined tab) (good-texts a fs g))
+      let back : readingOf rules (writtenOf rules i .word) ≡ Accepted i = write-read rules i (g .written) in
+      ap (λ (t : List ℕ). t ++ (lineFeed ∷ [])) (sym (joined-cut tab p) ∙ ap (joined tab) (good-texts rules a fs g))
       ∙ sym (line-joined (number a) (entriesOf i))
       ∙ ap (λ (x : Reading). lineText (number a) (entriesIn x)) (sym back)
 
 -- pieces whose lines are all good
-pieces-text : (room a : ℕ) (ps : List (List ℕ)) → toldOf room a (rowsOf ps) .number ≡ 0 → joined lineFeed ps ≡ textOf (wordLines a (map wordIn (rowsOf ps)))
-pieces-text room a [] e = refl
-pieces-text room a ([] ∷ []) e = refl
-pieces-text room a ((b ∷ bs) ∷ []) e =
-    never (sym (good-ended room a (record { bytes = b ∷ bs; ended = false }) (told-good room a (record { bytes = b ∷ bs; ended = false }) [] e .0)))
-pieces-text room a (p ∷ q ∷ ps) e =
+pieces-text : (rules : Rules) (room a : ℕ) (ps : List (List ℕ)) → toldOf rules room a (rowsOf ps) .number ≡ 0 → joined lineFeed ps ≡ textOf (wordLines rules a (map (wordIn rules) (rowsOf ps)))
+pieces-text rules room a [] e = refl
+pieces-text rules room a ([] ∷ []) e = refl
+pieces-text rules room a ((b ∷ bs) ∷ []) e =
+    never (sym (good-ended rules room a (record { bytes = b ∷ bs; ended = false }) (told-good rules room a (record { bytes = b ∷ bs; ended = false }) [] e .0)))
+pieces-text rules room a (p ∷ q ∷ ps) e =
     let row : Row = record { bytes = p; ended = true } in
-    let g = told-good room a row (rowsOf (q ∷ ps)) e in
+    let g = told-good rules room a row (rowsOf (q ∷ ps)) e in
     sym (append-assoc p (lineFeed ∷ []) (joined lineFeed (q ∷ ps)))
-    ∙ ap₂ (λ (x y : List ℕ). x ++ y) (line-text room a p (g .0)) (pieces-text room (a + 1) (q ∷ ps) (g .1))
+    ∙ ap₂ (λ (x y : List ℕ). x ++ y) (line-text rules room a p (g .0)) (pieces-text rules room (a + 1) (q ∷ ps) (g .1))
 
-count-lines : (room a : ℕ) (rows : List Row) → toldOf room a rows .number ≡ 0 → toldOf room a rows .count ≡ a + length rows
-count-lines room a [] e = ap (λ (t : ReadBack). t .count) (told-none room a) ∙ omega arith
-count-lines room a (row ∷ rows) e =
-    let g = told-good room a row rows e in
-    ap (λ (t : ReadBack). t .count) (told-next room a row rows (g .0)) ∙ count-lines room (a + 1) rows (g .1) ∙ omega arith
+count-lines : (rules : Rules) (room a : ℕ) (rows : List Row) → toldOf rules room a rows .number ≡ 0 → toldOf rules room a rows .count ≡ a + length rows
+count-lines rules room a [] e = ap (λ (t : ReadBack). t .count) (told-none rules room a) ∙ omega arith
+count-lines rules room a (row ∷ rows) e =
+    let g = told-good rules room a row rows e in
+    ap (λ (t : ReadBack). t .count) (told-next rules room a row rows (g .0)) ∙ count-lines rules room (a + 1) rows (g .1) ∙ omega arith
 
 pub read-back-listed : ReadBackListed
 unfolding readBack
-read-back-listed text before after r c z = by (isHeaded text) refl
+read-back-listed rules text before after r c z = by (isHeaded text) refl
   where
-    by : (t : Bool) → isHeaded text ≡ t → text ≡ listed (take (r .count) after)
-    by false e = absurd (let n : _≡_ {A = ℕ} 60 0 = sym (ap (λ (x : ReadBack). x .number) (c .answer ∙ ap (λ (t : Bool). pick t (toldOf (length before) 0 (bodyRows text)) (refusedAt 60 1)) e)) ∙ z in omega arith)
+    by : (t : Bool) → isHeaded text ≡ t → text ≡ listed rules (take (r .count) after)
+    by false e = absurd (let n : _≡_ {A = ℕ} 60 0 = sym (ap (λ (x : ReadBack). x .number) (c .answer ∙ ap (λ (t : Bool). pick t (toldOf rules (length before) 0 (bodyRows text)) (refusedAt 60 1)) e)) ∙ z in omega arith)
     by true e =
         let rows = bodyRows text in
-        let told : r ≡ toldOf (length before) 0 rows = c .answer ∙ ap (λ (t : Bool). pick t (toldOf (length before) 0 (bodyRows text)) (refusedAt 60 1)) e in
-        let good : toldOf (length before) 0 rows .number ≡ 0 = sym (ap (λ (x : ReadBack). x .number) told) ∙ z in
+        let told : r ≡ toldOf rules (length before) 0 rows = c .answer ∙ ap (λ (t : Bool). pick t (toldOf rules (length before) 0 (bodyRows text)) (refusedAt 60 1)) e in
+        let good : toldOf rules (length before) 0 rows .number ≡ 0 = sym (ap (λ (x : ReadBack). x .number) told) ∙ z in
         let rest = drop (length headerText) text in
         let front : take (length headerText) text ≡ headerText = same-text (take (length headerText) text) headerText e in
-        let size : r .count ≡ length (map wordIn rows) =
-        ap (λ (x : ReadBack). x .count) told ∙ count-lines (length before) 0 rows good ∙ zero-add (length rows) ∙ sym (length-map rows wordIn) in
-        let words : take (r .count) after ≡ map wordIn rows =
+        let size : r .count ≡ length (map (wordIn rules) rows) =
+        ap (λ (x : ReadBack). x .count) told ∙ count-lines rules (length before) 0 rows good ∙ zero-add (length rows) ∙ sym (length-map rows (wordIn rules)) in
+        let words : take (r .count) after ≡ map (wordIn rules) rows =
         ap₂ (λ (n : ℕ) (l : List ℕ). take n l)
         size
-        (c .words ∙ ap (λ (t : Bool). pick t (wordsIn text ++ drop (length (wordsIn text)) before) before) (eq-eqb (r .number) 0 z))
-        ∙ take-append-seam (map wordIn rows) (drop (length (wordsIn text)) before) in
+        (c .words ∙ ap (λ (t : Bool). pick t (wordsIn rules text ++ drop (length (wordsIn rules text)) before) before) (eq-eqb (r .number) 0 z))
+        ∙ take-append-seam (map (wordIn rules) rows) (drop (length (wordsIn rules text)) before) in
         sym (take-append-drop (length headerText) text)
-        ∙ ap₂ (λ (x y : List ℕ). x ++ y) front (sym (joined-cut lineFeed rest) ∙ pieces-text (length before) 0 (cut lineFeed rest) good)
-        ∙ ap listed (sym words)
+        ∙ ap₂ (λ (x y : List ℕ). x ++ y) front (sym (joined-cut lineFeed rest) ∙ pieces-text rules (length before) 0 (cut lineFeed rest) good)
+        ∙ ap (listed rules) (sym words)
 
 pub refused-untouched : RefusedUntouched
-refused-untouched text before after r c n = c .words ∙ ap (λ (t : Bool). pick t (wordsIn text ++ drop (length (wordsIn text)) before) before) (ne-eqb (r .number) 0 n)
+refused-untouched rules text before after r c n = c .words ∙ ap (λ (t : Bool). pick t (wordsIn rules text ++ drop (length (wordsIn rules text)) before) before) (ne-eqb (r .number) 0 n)

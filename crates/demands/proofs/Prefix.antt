@@ -10,6 +10,7 @@ use lib.Dec.{ltb, eqb, leb}
 use lib.ListN.{length, getD, length-append, List·getD-append}
 use Rattle.instruction.specs.Bits.{pick}
 use Rattle.instruction.specs.declared.Instruction.{Instruction}
+use Rattle.instruction.specs.declared.Rules.{Rules}
 use Rattle.instruction.specs.declared.QuadSamples.{QuadSamples}
 use Rattle.instruction.specs.declared.Body.{Body}
 use Rattle.instruction.specs.declared.Body.the-variants.{Waveform, Marker, Wait, LoadRepeat, Repeat, Cmp, Goto, Call, Return, Sync, Modulator, LoadCmp, Prefetch, Noop}
@@ -126,15 +127,15 @@ module _ (e e′ : Fixed) (x : Extends e e′) (s : State) where
 
   -- one law about one step: where it moved, it moves the same
   pub step-same : Same (stepOf e s) (stepOf e′ s)
-  step-same z = by (ltb (s .core .address .0) (length (e .words))) refl (readingOf (getD (e .words) (s .core .address .0) 0)) refl
+  step-same z = by (ltb (s .core .address .0) (length (e .words))) refl (readingOf (e .setting .rules) (getD (e .words) (s .core .address .0) 0)) refl
     where
       by : (b : Bool) → ltb (s .core .address .0) (length (e .words)) ≡ b
-          → (q : Reading) → readingOf (getD (e .words) (s .core .address .0) 0) ≡ q → stepOf e′ s ≡ stepOf e s
+          → (q : Reading) → readingOf (e .setting .rules) (getD (e .words) (s .core .address .0) 0) ≡ q → stepOf e′ s ≡ stepOf e s
       by false t q r = absurd (not-moved 30 (λ y. omega (arith, y)) (step-past e s (ltb-false (s .core .address .0) (length (e .words)) t)) z)
-      by true t (Refused f) r = step-refused e′ s f (subst (λ (l : List ℕ). s .core .address .0 < length l) (sym (x .words)) (ltb-true _ _ t)) (ap (λ (l : List ℕ). readingOf (getD l (s .core .address .0) 0)) (x .words) ∙ r) ∙ sym (step-refused e s f (ltb-true _ _ t) r)
+      by true t (Refused f) r = step-refused e′ s f (subst (λ (l : List ℕ). s .core .address .0 < length l) (sym (x .words)) (ltb-true _ _ t)) (ap₂ (λ (k : Rules) (l : List ℕ). readingOf k (getD l (s .core .address .0) 0)) (x .rules) (x .words) ∙ r) ∙ sym (step-refused e s f (ltb-true _ _ t) r)
       by true t (Accepted i) r =
           let p = step-accepted e s i (ltb-true _ _ t) r in
-          step-accepted e′ s i (subst (λ (l : List ℕ). s .core .address .0 < length l) (sym (x .words)) (ltb-true _ _ t)) (ap (λ (l : List ℕ). readingOf (getD l (s .core .address .0) 0)) (x .words) ∙ r)
+          step-accepted e′ s i (subst (λ (l : List ℕ). s .core .address .0 < length l) (sym (x .words)) (ltb-true _ _ t)) (ap₂ (λ (k : Rules) (l : List ℕ). readingOf k (getD l (s .core .address .0) 0)) (x .rules) (x .words) ∙ r)
           ∙ execute-same i (ap (λ (y : Did). y .end .number) (sym p) ∙ z) ∙ sym p
 
 -- ---- iteration

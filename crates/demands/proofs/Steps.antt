@@ -12,6 +12,7 @@ use Rattle.instruction.specs.Bits.{pick}
 use Rattle.instruction.specs.Table.{noopWord}
 use Rattle.instruction.specs.Word.{spelledBy, noop}
 use Rattle.instruction.specs.declared.Refusal.{Refusal}
+use Rattle.instruction.specs.declared.Rules.{Rules}
 use Rattle.instruction.specs.declared.Instruction.{Instruction}
 use Rattle.instruction.specs.declared.Body.{Body}
 use Rattle.instruction.specs.declared.Body.the-variants.{Waveform, Marker, Wait, LoadRepeat, Repeat, Cmp, Goto, Call, Return, Sync, Modulator, LoadCmp, Prefetch, Noop}
@@ -44,13 +45,13 @@ refused-number q i r false e p z = eqb-false (q .number) 0 e (same p ∙ z)
         number (Accepted j) = q .number
         number (Refused t) = t .number
 
-reading-number : (w : ℕ) (r : Refusal) → readingOf w ≡ Refused r → r .number ≡ 0 → ⊥
+reading-number : (rules : Rules) (w : ℕ) (r : Refusal) → readingOf rules w ≡ Refused r → r .number ≡ 0 → ⊥
 unfolding readingOf
-reading-number w r q z = by (eqb w noopWord) q
+reading-number rules w r q z = by (eqb w noopWord) q
   where
-    by : (b : Bool) → pick b (Accepted noop) (judged (refusedWith w (formIn w)) (spelledBy w)) ≡ Refused r → ⊥
+    by : (b : Bool) → pick b (Accepted noop) (judged (refusedWith w (formIn rules w)) (spelledBy w)) ≡ Refused r → ⊥
     by true p = let x : _≡_ {A = ℕ} 0 1 = cc in omega arith
-    by false p = refused-number (refusedWith w (formIn w)) (spelledBy w) r (eqb (formIn w) 0) refl p z
+    by false p = refused-number (refusedWith w (formIn rules w)) (spelledBy w) r (eqb (formIn rules w) 0) refl p z
 
 -- ---- a word that goes out
 
@@ -60,10 +61,10 @@ dispatches (Accepted i) = isDispatched (i .body)
 dispatches (Refused r) = false
 
 -- it is no NOOP, so it reads as what its fields spell
-reads-of : (w : ℕ) (i : Instruction) → readingOf w ≡ Accepted i → isDispatched (i .body) ≡ true → Reads w
-reads-of w i r q = by (eqb w noopWord) (reads-instruction w (ap numberOf r))
+reads-of : (rules : Rules) (w : ℕ) (i : Instruction) → readingOf rules w ≡ Accepted i → isDispatched (i .body) ≡ true → Reads rules w
+reads-of rules w i r q = by (eqb w noopWord) (reads-instruction rules w (ap numberOf r))
   where
-    by : (b : Bool) → Accepted (pick b noop (spelledBy w)) ≡ readingOf w → Reads w
+    by : (b : Bool) → Accepted (pick b noop (spelledBy w)) ≡ readingOf rules w → Reads rules w
     by true p = absurd (true≢false (sym (ap dispatches (p ∙ r) ∙ q)))
     by false p = record { form = sym p; kind = ap dispatches (p ∙ r) ∙ q }
 
@@ -90,7 +91,7 @@ pub record Flows (s : State) (c : Core) (rs cs : List ℕ) : Type 0 where
 -- the word at the address goes out, now or with the group that it is held for
 pub record Goes (e : Fixed) (s : State) : Type 0 where
   pub inside : s .core .address .0 < length (e .words)
-  pub reads : Reads (getD (e .words) (s .core .address .0) 0)
+  pub reads : Reads (e .setting .rules) (getD (e .words) (s .core .address .0) 0)
 
 pub data Outcome (e : Fixed) (s : State) : Did → Type 0 where
   stops : (r : Refusal) → (r .number ≡ 0 → ⊥) → SaysBit (getD (e .words) (s .core .address .0) 0) r → Outcome e s (refusedBy r s)
@@ -170,27 +171,27 @@ module _ (e : Fixed) (s : State) where
   act-outcome w Noop g t = moves-on (nothing t) _ _ _ refl refl stays
 
   module _ (inside : s .core .address .0 < length (e .words)) where
-    execute-outcome : (i : Instruction) → readingOf (getD (e .words) (s .core .address .0) 0) ≡ Accepted i → Outcome e s (executeOf e s i)
+    execute-outcome : (i : Instruction) → readingOf (e .setting .rules) (getD (e .words) (s .core .address .0) 0) ≡ Accepted i → Outcome e s (executeOf e s i)
     unfolding executeOf
     execute-outcome i r =
         let n : ℕ = placingOf (e .setting .wave .0) (length (e .words)) (i .body) in
         picks (Outcome e s) (eqb n 0)
         (λ _. picks (Outcome e s) (breaksGroup (s .core .held) (i .write) (i .body)) (λ _. stop-at 22 (λ z. omega (arith, z)) refl)
-        (λ t. act-outcome (i .write) (i .body) (λ q. record { inside = inside; reads = reads-of (getD (e .words) (s .core .address .0) 0) i r q }) t))
+        (λ t. act-outcome (i .write) (i .body) (λ q. record { inside = inside; reads = reads-of (e .setting .rules) (getD (e .words) (s .core .address .0) 0) i r q }) t))
         (λ t. stop-at n (eqb-false n 0 t) (placing-quiet (e .setting .wave .0) (length (e .words)) (i .body)))
 
-    reading-outcome : (q : Reading) → readingOf (getD (e .words) (s .core .address .0) 0) ≡ q → Outcome e s (withReading e s q)
+    reading-outcome : (q : Reading) → readingOf (e .setting .rules) (getD (e .words) (s .core .address .0) 0) ≡ q → Outcome e s (withReading e s q)
     unfolding withReading
     reading-outcome (Accepted i) p = execute-outcome i p
     reading-outcome (Refused r) p =
         let w = getD (e .words) (s .core .address .0) 0 in
-        stops r (reading-number w r p) (subst (λ (q : Reading). SaysBit w (refusalOf q)) p (which-bit w))
+        stops r (reading-number (e .setting .rules) w r p) (subst (λ (q : Reading). SaysBit w (refusalOf q)) p (which-bit (e .setting .rules) w))
 
   pub outcome : Outcome e s (stepOf e s)
   unfolding stepOf
   outcome =
       picks (Outcome e s) (ltb (s .core .address .0) (length (e .words)))
-      (λ t. reading-outcome (ltb-true (s .core .address .0) (length (e .words)) t) (readingOf (getD (e .words) (s .core .address .0) 0)) refl)
+      (λ t. reading-outcome (ltb-true (s .core .address .0) (length (e .words)) t) (readingOf (e .setting .rules) (getD (e .words) (s .core .address .0) 0)) refl)
       (λ _. stop-at 30 (λ z. omega (arith, z)) refl)
 
 -- ---- what follows

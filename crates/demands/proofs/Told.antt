@@ -8,6 +8,7 @@ use borrow.Author.Tests.{eqb-false}
 use lib.Dec.{ltb, eqb}
 use lib.ListN.{length, getD, drop}
 use Rattle.instruction.specs.Bits.{pick}
+use Rattle.instruction.specs.declared.Rules.{Rules}
 use Rattle.reader.specs.Reading.{readingOf, refusalOf}
 use Rattle.reader.specs.declared.Reading.{Reading}
 use Rattle.reader.specs.declared.Reading.the-variants.{Accepted, Refused}
@@ -42,9 +43,9 @@ run-input-quiet n wave budget = picks Quiet (not (eqb (lengthsRefused n wave) 0)
 
 -- ---- check
 
-word-says : (wave : ℕ) (words : List ℕ) (a : ℕ) → SaysBit (getD words a 0) (wordRefusal wave words a)
+word-says : (rules : Rules) (wave : ℕ) (words : List ℕ) (a : ℕ) → SaysBit (getD words a 0) (wordRefusal rules wave words a)
 unfolding wordRefusal standsRefused
-word-says wave words a = by (readingOf w) (which-bit w)
+word-says rules wave words a = by (readingOf rules w) (which-bit rules w)
   where
     w : ℕ
     w = getD words a 0
@@ -62,11 +63,11 @@ fault-quiet words number a (full _ _ _) = refl
 fault-quiet words number a (empty _ _ _) = refl
 
 pub which-bit-checked : WhichBitChecked
-which-bit-checked wave words marks _ _ (input _) = says-none _ _ (check-input-quiet (length words) wave (length marks))
-which-bit-checked wave words marks _ _ (word _ (passed _) _) = says-none _ 0 refl
-which-bit-checked wave words marks _ _ (word _ (first {a = a} _ _ _) _) = word-says wave words a
-which-bit-checked wave words marks _ _ (flow _ _ _ (sound _)) = says-none _ 0 refl
-which-bit-checked wave words marks _ _ (flow _ _ _ (faulty {number = k} {a = a} f _)) = says-none _ k (fault-quiet words k a f)
+which-bit-checked rules wave words marks _ _ (input _) = says-none _ _ (check-input-quiet (length words) wave (length marks))
+which-bit-checked rules wave words marks _ _ (word _ (passed _) _) = says-none _ 0 refl
+which-bit-checked rules wave words marks _ _ (word _ (first {a = a} _ _ _) _) = word-says rules wave words a
+which-bit-checked rules wave words marks _ _ (flow _ _ _ (sound _)) = says-none _ 0 refl
+which-bit-checked rules wave words marks _ _ (flow _ _ _ (faulty {number = k} {a = a} f _)) = says-none _ k (fault-quiet words k a f)
 
 -- ---- a run
 

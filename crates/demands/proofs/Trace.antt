@@ -17,9 +17,9 @@ use Rattle.demands.specs.Run.{Reads, Every, TraceReads}
 use Rattle.demands.proofs.Steps.{Goes, Outcome, stops, flows, holds, sends, outcome}
 use Rattle.demands.proofs.Along.{all-along}
 
-every-append : (xs ys : List ℕ) → Every Reads xs → Every Reads ys → Every Reads (xs ++ ys)
-every-append [] ys p q = q
-every-append (x ∷ xs) ys p q = (p .0, every-append xs ys (p .1) q)
+every-append : (P : ℕ → Type 0) (xs ys : List ℕ) → Every P xs → Every P ys → Every P (xs ++ ys)
+every-append P [] ys p q = q
+every-append P (x ∷ xs) ys p q = (p .0, every-append P xs ys (p .1) q)
 
 -- the words that are held, right below the address
 abbrev heldWords : Fixed → Core → List ℕ
@@ -34,26 +34,26 @@ group-is words a h l k =
 
 -- what is dispatched so far reads, and so does what is held
 record Read (e : Fixed) (out : List ℕ) (c : Core) : Type 0 where
-  sent : Every Reads out
-  held : Every Reads (heldWords e c)
+  sent : Every (Reads (e .setting .rules)) out
+  held : Every (Reads (e .setting .rules)) (heldWords e c)
 
 module _ (e : Fixed) (out : List ℕ) (s : State) (b : Good e s) (p : Read e out (s .core)) where
-  group-reads : Goes e s → Every Reads (groupOf e (s .core))
+  group-reads : Goes e s → Every (Reads (e .setting .rules)) (groupOf e (s .core))
   group-reads g =
-      subst (Every Reads) (sym (group-is (e .words) (s .core .address .0) (s .core .held) (b .behind) (g .inside)))
-      (every-append (heldWords e (s .core)) (getD (e .words) (s .core .address .0) 0 ∷ []) (p .held) (g .reads, tt))
+      subst (Every (Reads (e .setting .rules))) (sym (group-is (e .words) (s .core .address .0) (s .core .held) (b .behind) (g .inside)))
+      (every-append (Reads (e .setting .rules)) (heldWords e (s .core)) (getD (e .words) (s .core .address .0) 0 ∷ []) (p .held) (g .reads, tt))
 
-  quiet : Every Reads (out ++ [])
-  quiet = subst (Every Reads) (sym (append-nil out)) (p .sent)
+  quiet : Every (Reads (e .setting .rules)) (out ++ [])
+  quiet = subst (Every (Reads (e .setting .rules))) (sym (append-nil out)) (p .sent)
 
   read-step : (d : Did) → Outcome e s d → Read e (out ++ d .out) (d .state .core)
   read-step d (stops r h _) = record { sent = quiet; held = p .held }
-  read-step d (flows c rs cs f) = record { sent = quiet; held = subst (λ (h : ℕ). Every Reads (part (c .address .0 - h) h (e .words))) (sym (f .held)) tt }
-  read-step d (holds g) = record { sent = quiet; held = subst (λ (a : ℕ). Every Reads (part a (s .core .held + 1) (e .words))) below (group-reads g) }
+  read-step d (flows c rs cs f) = record { sent = quiet; held = subst (λ (h : ℕ). Every (Reads (e .setting .rules)) (part (c .address .0 - h) h (e .words))) (sym (f .held)) tt }
+  read-step d (holds g) = record { sent = quiet; held = subst (λ (a : ℕ). Every (Reads (e .setting .rules)) (part a (s .core .held + 1) (e .words))) below (group-reads g) }
     where
       below : s .core .address .0 - s .core .held ≡ s .core .address .0 + 1 - (s .core .held + 1)
       below = omega arith
-  read-step d (sends g) = record { sent = every-append out (groupOf e (s .core)) (p .sent) (group-reads g); held = tt }
+  read-step d (sends g) = record { sent = every-append (Reads (e .setting .rules)) out (groupOf e (s .core)) (p .sent) (group-reads g); held = tt }
 
 pub trace-reads : TraceReads
 trace-reads e budget =

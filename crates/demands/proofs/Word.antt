@@ -17,6 +17,7 @@ use Rattle.instruction.specs.Word.{codeIn, valuesIn, spelledBy, noop, wordOf, b
 use Rattle.instruction.specs.declared.Field.{Field}
 use Rattle.instruction.specs.declared.Instruction.{Instruction}
 use Rattle.instruction.specs.declared.Refusal.{Refusal}
+use Rattle.instruction.specs.declared.Rules.{Rules}
 use Rattle.instruction.specs.declared.Body.{Body}
 use Rattle.instruction.specs.declared.Body.the-variants.{Waveform, Marker, Wait, LoadRepeat, Repeat, Cmp, Goto, Call, Return, Sync, Modulator, LoadCmp, Prefetch, Noop}
 use Rattle.instruction.proofs.Laws.{fits-noop, fits-other, word-noop, word-other}
@@ -154,9 +155,9 @@ word-is i n =
     word-other i n
     ∙ onto-sum (laid opCode (codeOf (i .body))) (engineSelect ∷ writeFlag ∷ payloadOf (codeOf (i .body))) (i .engine ∷ i .write ∷ valuesOf (i .body))
 
-other-back : (i : Instruction) → (codeOf (i .body) ≡ 15 → ⊥) → fitsOf i ≡ true → formOf i ≡ 0 → readingOf (wordOf i) ≡ Accepted i
+other-back : (rules : Rules) (i : Instruction) → (codeOf (i .body) ≡ 15 → ⊥) → fitsOf i ≡ true → formOf rules i ≡ 0 → readingOf rules (wordOf i) ≡ Accepted i
 unfolding spelledBy
-other-back i n t z =
+other-back rules i n t z =
     let b : Body = i .body in
     let c : ℕ = codeOf b in
     let w : ℕ = wordOf i in
@@ -174,13 +175,13 @@ other-back i n t z =
       body = (ap (λ (k : ℕ). bodyOf k (valuesIn k w)) code ∙ ap (λ (l : List ℕ). bodyOf c (pick (isIgnored c) [] l)) payload ∙ x .body) j;
     }) in
     let named : hasUnnamed w ≡ false = sum-named w (ap (λ (k : ℕ). sumOf (fieldsOf k) (heldIn w (fieldsOf k))) code ∙ ap (sumOf (fieldsOf c)) hs ∙ sym (word-is i n)) in
-    let form : formIn w ≡ 0 = form-rest w (omega (arith, code, x .code)) named (x .own w code payload) ∙ ap formOf spelled ∙ z in
-    reads w (λ e. omega (arith, code, x .code, e)) form ∙ ap Accepted spelled
+    let form : formIn rules w ≡ 0 = form-rest rules w (omega (arith, code, x .code)) named (x .own w code payload) ∙ ap (formOf rules) spelled ∙ z in
+    reads rules w (λ e. omega (arith, code, x .code, e)) form ∙ ap Accepted spelled
 
-noop-back : (i : Instruction) → codeOf (i .body) ≡ 15 → fitsOf i ≡ true → readingOf (wordOf i) ≡ Accepted i
-noop-back i n t =
+noop-back : (rules : Rules) (i : Instruction) → codeOf (i .body) ≡ 15 → fitsOf i ≡ true → readingOf rules (wordOf i) ≡ Accepted i
+noop-back rules i n t =
     let u = both (sym (fits-noop i n) ∙ t) in
-    reads-noop (wordOf i) (word-noop i n)
+    reads-noop rules (wordOf i) (word-noop i n)
     ∙ (λ j. Accepted (record { engine = sym (eqb-true (i .engine) 0 (u .0)) j; write = sym (eqb-true (i .write) 0 (u .1)) j; body = sym (only-noop (i .body) n) j }))
   where
     only-noop : (b : Body) → codeOf b ≡ 15 → b ≡ Noop
@@ -200,19 +201,19 @@ noop-back i n t =
     only-noop Noop e = refl
 
 -- the number tells whether an instruction fits
-fits-or : (i : Instruction) → askedOf i ≡ 0 → (b : Bool) → fitsOf i ≡ b → (fitsOf i ≡ true) × (formOf i ≡ 0)
-fits-or i a true t = (t, sym (asked-fitting i t) ∙ a)
-fits-or i a false t = absurd (omega (arith, a, asked-wide i t))
+fits-or : (rules : Rules) (i : Instruction) → askedOf rules i ≡ 0 → (b : Bool) → fitsOf i ≡ b → (fitsOf i ≡ true) × (formOf rules i ≡ 0)
+fits-or rules i a true t = (t, sym (asked-fitting rules i t) ∙ a)
+fits-or rules i a false t = absurd (omega (arith, a, asked-wide rules i t))
 
-by-name : (i : Instruction) → fitsOf i ≡ true → formOf i ≡ 0 → Dec (codeOf (i .body) ≡ 15) → readingOf (wordOf i) ≡ Accepted i
-by-name i t z (yes n) = noop-back i n t
-by-name i t z (no n) = other-back i n t z
+by-name : (rules : Rules) (i : Instruction) → fitsOf i ≡ true → formOf rules i ≡ 0 → Dec (codeOf (i .body) ≡ 15) → readingOf rules (wordOf i) ≡ Accepted i
+by-name rules i t z (yes n) = noop-back rules i n t
+by-name rules i t z (no n) = other-back rules i n t z
 
 pub write-read : WriteRead
 unfolding writtenOf
-write-read i a =
-    let t = fits-or i a (fitsOf i) refl in
-    ap (λ (x : Written). readingOf (x .word)) (written-good i a) ∙ by-name i (t .0) (t .1) (ℕ-discrete (codeOf (i .body)) 15)
+write-read rules i a =
+    let t = fits-or rules i a (fitsOf i) refl in
+    ap (λ (x : Written). readingOf rules (x .word)) (written-good rules i a) ∙ by-name rules i (t .0) (t .1) (ℕ-discrete (codeOf (i .body)) 15)
 
 -- ---- an accepted word, read and written, gives the word back
 
@@ -255,20 +256,20 @@ again w (suc (suc (suc (suc (suc (suc (suc (suc (suc (suc (suc (suc zero))))))))
 again w (suc (suc (suc (suc (suc (suc (suc (suc (suc (suc (suc (suc (suc n))))))))))))) h c s = absurd (omega arith)
 
 -- what a form number of 0 says of a word
-record Passed (w : ℕ) : Type 0 where
+record Passed (rules : Rules) (w : ℕ) : Type 0 where
   low : codeIn w < 13
   named : hasUnnamed w ≡ false
   own : notItsOp w ≡ false
-  form : formOf (spelledBy w) ≡ 0
+  form : formOf rules (spelledBy w) ≡ 0
 
-passed : (w : ℕ) → formIn w ≡ 0 → Passed w
-passed w z = by (decLt (codeIn w) 13) (hasUnnamed w) refl (notItsOp w) refl
+passed : (rules : Rules) (w : ℕ) → formIn rules w ≡ 0 → Passed rules w
+passed rules w z = by (decLt (codeIn w) 13) (hasUnnamed w) refl (notItsOp w) refl
   where
-    by : Dec (codeIn w < 13) → (u : Bool) → hasUnnamed w ≡ u → (o : Bool) → notItsOp w ≡ o → Passed w
-    by (no h) u p o q = absurd (omega (arith, z, form-10 w (omega arith)))
-    by (yes h) true p o q = absurd (true≢false (sym (kind-tells (codeIn w) (highestStray w)) ∙ ap tellsBit (sym (form-unnamed w h p) ∙ z)))
-    by (yes h) false p true q = absurd (omega (arith, z, form-12 w h p q))
-    by (yes h) false p false q = record { low = h; named = p; own = q; form = sym (form-rest w h p q) ∙ z }
+    by : Dec (codeIn w < 13) → (u : Bool) → hasUnnamed w ≡ u → (o : Bool) → notItsOp w ≡ o → Passed rules w
+    by (no h) u p o q = absurd (omega (arith, z, form-10 rules w (omega arith)))
+    by (yes h) true p o q = absurd (true≢false (sym (kind-tells (codeIn w) (highestStray w)) ∙ ap tellsBit (sym (form-unnamed rules w h p) ∙ z)))
+    by (yes h) false p true q = absurd (omega (arith, z, form-12 rules w h p q))
+    by (yes h) false p false q = record { low = h; named = p; own = q; form = sym (form-rest rules w h p q) ∙ z }
 
 -- RETURN and LOAD_CMP: the header above a payload of 0
 top : (w : ℕ) → sumOf (opCode ∷ engineSelect ∷ writeFlag ∷ wholePayload ∷ []) (heldIn w (opCode ∷ engineSelect ∷ writeFlag ∷ wholePayload ∷ [])) ≡ w
@@ -283,36 +284,36 @@ zero-fits : (b : Body) (n : ℕ) → codeOf b ≡ n → isIgnored n ≡ true →
 zero-fits b n c g v = rw (c, v, g)
 
 -- what is spelled by a word that passes, and fits, is written as its sum
-written : (w : ℕ) → Passed w → codeOf (spelledBy w .body) ≡ codeIn w → bodyFits (spelledBy w .body) ≡ true
-    → writtenOf (spelledBy w) ≡ record { number = 0; word = sumOf (fieldsOf (codeIn w)) (codeIn w ∷ held w engineSelect ∷ held w writeFlag ∷ valuesOf (spelledBy w .body)) }
+written : (rules : Rules) (w : ℕ) → Passed rules w → codeOf (spelledBy w .body) ≡ codeIn w → bodyFits (spelledBy w .body) ≡ true
+    → writtenOf rules (spelledBy w) ≡ record { number = 0; word = sumOf (fieldsOf (codeIn w)) (codeIn w ∷ held w engineSelect ∷ held w writeFlag ∷ valuesOf (spelledBy w .body)) }
 unfolding spelledBy
-written w x c t =
+written rules w x c t =
     let i : Instruction = spelledBy w in
     let n : codeOf (i .body) ≡ 15 → ⊥ = (λ e. omega (arith, c, e, x .low)) in
     let header : allFit (engineSelect ∷ writeFlag ∷ []) (i .engine ∷ i .write ∷ []) ≡ true = fit-test (held-fit w (engineSelect ∷ writeFlag ∷ [])) in
-    let asked : askedOf i ≡ 0 = asked-fitting i (fits-other i n ∙ rw header t) ∙ x .form in
+    let asked : askedOf rules i ≡ 0 = asked-fitting rules i (fits-other i n ∙ rw header t) ∙ x .form in
     let word : wordOf i ≡ sumOf (fieldsOf (codeIn w)) (codeIn w ∷ i .engine ∷ i .write ∷ valuesOf (i .body)) =
     word-is i n ∙ ap (λ (k : ℕ). sumOf (fieldsOf k) (k ∷ i .engine ∷ i .write ∷ valuesOf (i .body))) c in
-    written-good i asked ∙ (λ j. record { number = asked j; word = word j })
+    written-good rules i asked ∙ (λ j. record { number = asked j; word = word j })
 
-accepted : (w : ℕ) → w < 2 ^ 64 → Passed w → Again w (codeIn w) → writtenOf (spelledBy w) ≡ record { number = 0; word = zeroed w }
+accepted : (rules : Rules) (w : ℕ) → w < 2 ^ 64 → Passed rules w → Again w (codeIn w) → writtenOf rules (spelledBy w) ≡ record { number = 0; word = zeroed w }
 unfolding spelledBy
-accepted w h x (kept g c v) =
-    written w x c (held-fits (spelledBy w .body) (codeIn w) w c g v)
+accepted rules w h x (kept g c v) =
+    written rules w x c (held-fits (spelledBy w .body) (codeIn w) w c g v)
     ∙ ap (λ (vs : List ℕ). record { number = 0; word = sumOf (fieldsOf (codeIn w)) (codeIn w ∷ held w engineSelect ∷ held w writeFlag ∷ vs) }) v
     ∙ ap (λ (u : ℕ). record { number = 0; word = u }) (word-sum w h (x .named) ∙ rw g)
-accepted w h x (zeroes g c v r) =
+accepted rules w h x (zeroes g c v r) =
     let fs : List Field → List Field = (λ p. opCode ∷ engineSelect ∷ writeFlag ∷ p) in
-    written w x c (zero-fits (spelledBy w .body) (codeIn w) c g v)
+    written rules w x c (zero-fits (spelledBy w .body) (codeIn w) c g v)
     ∙ ap (λ (vs : List ℕ). record { number = 0; word = sumOf (fieldsOf (codeIn w)) (codeIn w ∷ held w engineSelect ∷ held w writeFlag ∷ vs) }) v
     ∙ ap (λ (p : List Field). record { number = 0; word = sumOf (fs p) (codeIn w ∷ held w engineSelect ∷ held w writeFlag ∷ 0 ∷ []) }) r
     ∙ ap (λ (u : ℕ). record { number = 0; word = u })
     (top w (ap (λ (p : List Field). sumOf (fs p) (heldIn w (fs p))) (sym r) ∙ word-sum w h (x .named)) ∙ rw g)
 
 -- NOOP is written as itself
-noop-again : (w : ℕ) → w ≡ noopWord → writtenOf noop ≡ record { number = 0; word = zeroed w }
+noop-again : (rules : Rules) (w : ℕ) → w ≡ noopWord → writtenOf rules noop ≡ record { number = 0; word = zeroed w }
 unfolding writtenOf askedOf fitsOf formOf wordOf
-noop-again w e = rw e
+noop-again rules w e = rw e
 
 same : {i k : Instruction} → Accepted i ≡ Accepted k → i ≡ k
 same e = cc
@@ -320,17 +321,17 @@ same e = cc
 refused : {i : Instruction} {r : Refusal} → Refused r ≡ Accepted i → ⊥
 refused e = let z : _≡_ {A = ℕ} 0 1 = cc in omega arith
 
-by-form : (w : ℕ) → w < 2 ^ 64 → (i : Instruction) → (w ≡ noopWord → ⊥) → readingOf w ≡ Accepted i → Dec (formIn w ≡ 0)
-    → writtenOf i ≡ record { number = 0; word = zeroed w }
-by-form w h i n r (yes z) =
-    let x = passed w z in
-    ap writtenOf (same (sym r ∙ reads w n z)) ∙ accepted w h x (again w (codeIn w) (x .low) refl (x .own))
-by-form w h i n r (no z) = absurd (refused (sym (refuses w n z) ∙ r))
+by-form : (rules : Rules) (w : ℕ) → w < 2 ^ 64 → (i : Instruction) → (w ≡ noopWord → ⊥) → readingOf rules w ≡ Accepted i → Dec (formIn rules w ≡ 0)
+    → writtenOf rules i ≡ record { number = 0; word = zeroed w }
+by-form rules w h i n r (yes z) =
+    let x = passed rules w z in
+    ap (writtenOf rules) (same (sym r ∙ reads rules w n z)) ∙ accepted rules w h x (again w (codeIn w) (x .low) refl (x .own))
+by-form rules w h i n r (no z) = absurd (refused (sym (refuses rules w n z) ∙ r))
 
-by-noop : (w : ℕ) → w < 2 ^ 64 → (i : Instruction) → readingOf w ≡ Accepted i → Dec (w ≡ noopWord)
-    → writtenOf i ≡ record { number = 0; word = zeroed w }
-by-noop w h i r (yes e) = ap writtenOf (same (sym r ∙ reads-noop w e)) ∙ noop-again w e
-by-noop w h i r (no n) = by-form w h i n r (ℕ-discrete (formIn w) 0)
+by-noop : (rules : Rules) (w : ℕ) → w < 2 ^ 64 → (i : Instruction) → readingOf rules w ≡ Accepted i → Dec (w ≡ noopWord)
+    → writtenOf rules i ≡ record { number = 0; word = zeroed w }
+by-noop rules w h i r (yes e) = ap (writtenOf rules) (same (sym r ∙ reads-noop rules w e)) ∙ noop-again rules w e
+by-noop rules w h i r (no n) = by-form rules w h i n r (ℕ-discrete (formIn rules w) 0)
 
 pub read-write : ReadWrite
-read-write w h i r = by-noop w h i r (ℕ-discrete w noopWord)
+read-write rules w h i r = by-noop rules w h i r (ℕ-discrete w noopWord)

@@ -12,6 +12,7 @@ use lib.Dec.{ltb, eqb}
 use lib.ListN.{length}
 use Rattle.instruction.specs.Form.{numbered, formOf}
 use Rattle.instruction.specs.Word.{spelledBy}
+use Rattle.instruction.specs.declared.Rules.{Rules}
 use Rattle.reader.specs.Reading.{someBelow, hasKind, notItsOp, formIn, highestStray, readingOf}
 use Rattle.reader.proofs.Below.{none-below}
 use Rattle.sequence.specs.Bounds.{wordLimit, waveLimit, stackDepth, budgetLimit, lengthsRefused}
@@ -38,24 +39,24 @@ use Rattle.demands.proofs.Certificate.{at, no-fault, no-lower}
 -- ---- what settles a check
 
 -- a word below n is refused
-abbrev refusedBelow : ℕ → ℕ → List ℕ → Bool
-refusedBelow n wave words = someBelow n (λ a. not (eqb (wordRefusal wave words a .number) 0))
+abbrev refusedBelow : Rules → ℕ → ℕ → List ℕ → Bool
+refusedBelow rules n wave words = someBelow n (λ a. not (eqb (wordRefusal rules wave words a .number) 0))
 
-pass : (n wave : ℕ) (words : List ℕ) → refusedBelow n wave words ≡ false → (a : ℕ) → a < n → Passes wave words a
-pass n wave words e a l = eqb-true _ 0 (not-false _ (none-below n (λ k. not (eqb (wordRefusal wave words k .number) 0)) e a l))
+pass : (rules : Rules) (n wave : ℕ) (words : List ℕ) → refusedBelow rules n wave words ≡ false → (a : ℕ) → a < n → Passes rules wave words a
+pass rules n wave words e a l = eqb-true _ 0 (not-false _ (none-below n (λ k. not (eqb (wordRefusal rules wave words k .number) 0)) e a l))
 
-by-flow : (wave : ℕ) (words : List ℕ) (u : Verdict) → lengthsRefused (length words) wave ≡ 0 → refusedBelow (length words) wave words ≡ false → FlowIs stackDepth words u
-    → (marks marks′ : List ℕ) (v : Verdict) → length words ≤ length marks → CheckIs wave words marks v marks′ → v ≡ u
-by-flow wave words u n p f marks _ _ l (check.input h) = absurd (h (input-none (length words) wave (length marks) n l))
-by-flow wave words u n p f marks _ v l (check.word _ w h) =
-    absurd (h (ap (λ (x : Verdict). x .refusal .number) (one-words wave words w (check.passed (pass (length words) wave words p)))))
-by-flow wave words u n p f marks _ _ l (check.flow _ _ _ g) = one-flow stackDepth words g f
+by-flow : (rules : Rules) (wave : ℕ) (words : List ℕ) (u : Verdict) → lengthsRefused (length words) wave ≡ 0 → refusedBelow rules (length words) wave words ≡ false → FlowIs stackDepth words u
+    → (marks marks′ : List ℕ) (v : Verdict) → length words ≤ length marks → CheckIs rules wave words marks v marks′ → v ≡ u
+by-flow rules wave words u n p f marks _ _ l (check.input h) = absurd (h (input-none (length words) wave (length marks) n l))
+by-flow rules wave words u n p f marks _ v l (check.word _ w h) =
+    absurd (h (ap (λ (x : Verdict). x .refusal .number) (one-words rules wave words w (check.passed (pass rules (length words) wave words p)))))
+by-flow rules wave words u n p f marks _ _ l (check.flow _ _ _ g) = one-flow stackDepth words g f
 
-by-word : (wave : ℕ) (words : List ℕ) (v : Verdict) → lengthsRefused (length words) wave ≡ 0 → WordsAre wave words v → (v .refusal .number ≡ 0 → ⊥)
-    → (marks marks′ : List ℕ) (u : Verdict) → length words ≤ length marks → CheckIs wave words marks u marks′ → u ≡ v
-by-word wave words v n w h marks _ _ l (check.input z) = absurd (z (input-none (length words) wave (length marks) n l))
-by-word wave words v n w h marks _ u l (check.word _ x _) = one-words wave words x w
-by-word wave words v n w h marks _ _ l (check.flow _ all _ _) = absurd (h (ap (λ (x : Verdict). x .refusal .number) (one-words wave words w (check.passed all))))
+by-word : (rules : Rules) (wave : ℕ) (words : List ℕ) (v : Verdict) → lengthsRefused (length words) wave ≡ 0 → WordsAre rules wave words v → (v .refusal .number ≡ 0 → ⊥)
+    → (marks marks′ : List ℕ) (u : Verdict) → length words ≤ length marks → CheckIs rules wave words marks u marks′ → u ≡ v
+by-word rules wave words v n w h marks _ _ l (check.input z) = absurd (z (input-none (length words) wave (length marks) n l))
+by-word rules wave words v n w h marks _ u l (check.word _ x _) = one-words rules wave words x w
+by-word rules wave words v n w h marks _ _ l (check.flow _ all _ _) = absurd (h (ap (λ (x : Verdict). x .refusal .number) (one-words rules wave words w (check.passed all))))
 
 -- ---- the flows
 
@@ -97,21 +98,21 @@ infixr 5 _also_
 _also_ : {A B : Type 0} → A → B → A × B
 a also b = (a, b)
 
-pub worked-sequences : WorkedSequences table
+pub worked-sequences : (rules : Rules) → WorkedSequences rules table
 unfolding wordRefusal standsRefused leftOpen closes isEngineWord isHigh readingOf formIn hasKind highestStray notItsOp formOf spelledBy placingOf lengthsRefused inputRefused rehearse runOf stepOf withReading executeOf actOf engineWordOf sendOf syncOf messageOf callOf returnOf
-worked-sequences =
-    (by-flow 5 fourWords (verdict (numbered 0) 0) refl refl p1 also tt)
-    also (by-word 4 fourWords (verdict (numbered 20) 2) refl (check.first {a = 2} (omega arith) (pass 2 4 fourWords refl) (λ z. omega (arith, z))) (λ z. omega (arith, z)) also tt)
+worked-sequences rules =
+    (by-flow rules 5 fourWords (verdict (numbered 0) 0) refl refl p1 also tt)
+    also (by-word rules 4 fourWords (verdict (numbered 20) 2) refl (check.first {a = 2} (omega arith) (pass rules 2 4 fourWords refl) (λ z. omega (arith, z))) (λ z. omega (arith, z)) also tt)
     also (refl also refl also refl also refl also refl also refl also tt)
     also (refl also refl also refl also refl also tt)
     also (refl also tt)
     also (refl also refl also refl also refl also refl also tt)
-    also (by-flow 0 (0x8000000000000000 ∷ []) (verdict (numbered 32) 0) refl refl p6 also tt)
-    also (by-flow 0 (0xFFFFFFFFFFFFFFFF ∷ []) (verdict (numbered 30) 1) refl refl p7 also tt)
-    also (by-flow 0 (0x7000000000000000 ∷ []) (verdict (numbered 31) 0) refl refl p8 also tt)
-    also (by-flow 0 (0x7000000000000002 ∷ 0x6000000000000001 ∷ 0x8000000000000000 ∷ []) (verdict (numbered 0) 0) refl refl p9 also tt)
-    also (by-flow 0 twoWords (verdict (numbered 30) 2) refl refl p10 also tt)
-    also (by-word 0 (0x2100000000000000 ∷ []) (verdict (numbered 12) 0) refl (check.first {a = 0} (omega arith) (λ b l. absurd (omega arith)) (λ z. omega (arith, z))) (λ z. omega (arith, z)) also tt)
+    also (by-flow rules 0 (0x8000000000000000 ∷ []) (verdict (numbered 32) 0) refl refl p6 also tt)
+    also (by-flow rules 0 (0xFFFFFFFFFFFFFFFF ∷ []) (verdict (numbered 30) 1) refl refl p7 also tt)
+    also (by-flow rules 0 (0x7000000000000000 ∷ []) (verdict (numbered 31) 0) refl refl p8 also tt)
+    also (by-flow rules 0 (0x7000000000000002 ∷ 0x6000000000000001 ∷ 0x8000000000000000 ∷ []) (verdict (numbered 0) 0) refl refl p9 also tt)
+    also (by-flow rules 0 twoWords (verdict (numbered 30) 2) refl refl p10 also tt)
+    also (by-word rules 0 (0x2100000000000000 ∷ []) (verdict (numbered 12) 0) refl (check.first {a = 0} (omega arith) (λ b l. absurd (omega arith)) (λ z. omega (arith, z))) (λ z. omega (arith, z)) also tt)
     also (refl also refl also refl also tt)
     also tt
 
@@ -128,7 +129,7 @@ spends messages room setting (suc zero) k = refl
 spends messages room setting (suc (suc budget)) k = spends messages room setting budget (k + 1 + 1)
 
 -- "Input refusals: 1 .. 5"
-input-low : (n wave budget : ℕ) → inputRefused n wave budget ≤ 5
+pub input-low : (n wave budget : ℕ) → inputRefused n wave budget ≤ 5
 unfolding inputRefused lengthsRefused
 input-low n wave budget =
     let Low : ℕ → Type 0 = λ k. k ≤ 5 in

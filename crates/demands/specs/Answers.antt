@@ -5,6 +5,7 @@ use mathlib.Core.Bool.{Bool}
 use mathlib.Core.List.{List}
 use Prim.Native.Nat.{ℕ, _≤_}
 use Rattle.instruction.specs.declared.Instruction.{Instruction}
+use Rattle.instruction.specs.declared.Rules.{Rules}
 use Rattle.reader.specs.Reading.{readingOf}
 use Rattle.reader.specs.declared.Reading.{Reading}
 use Rattle.writer.specs.Writing.{writtenOf}
@@ -38,10 +39,10 @@ abbrev pub OneEqual : Type 1
 OneEqual = (A : Type 0) (definition : A) → One A (λ r. r ≡ definition)
 
 abbrev pub OneRead : Type 0
-OneRead = (word : ℕ) → One Reading (λ r. r ≡ readingOf word)
+OneRead = (rules : Rules) (word : ℕ) → One Reading (λ r. r ≡ readingOf rules word)
 
 abbrev pub OneWrite : Type 0
-OneWrite = (i : Instruction) → One Written (λ r. r ≡ writtenOf i)
+OneWrite = (rules : Rules) (i : Instruction) → One Written (λ r. r ≡ writtenOf rules i)
 
 -- the answer, and the trace
 abbrev pub OneRun : Type 0
@@ -49,7 +50,7 @@ OneRun = (budget : ℕ) (e : Fixed) (before : List ℕ) → One (Answer × List 
 
 -- the verdict, and the marks
 abbrev pub OneCheck : Type 0
-OneCheck = (wave : ℕ) (words marks : List ℕ) → One (Verdict × List ℕ) (λ r. CheckIs wave words marks (r .0) (r .1))
+OneCheck = (rules : Rules) (wave : ℕ) (words marks : List ℕ) → One (Verdict × List ℕ) (λ r. CheckIs rules wave words marks (r .0) (r .1))
 
 -- the length of the listing, and the buffer
 abbrev pub OneList : Type 0
@@ -57,7 +58,7 @@ OneList = (text before : List ℕ) → One (ℕ × List ℕ) (λ r. Listed text 
 
 -- what is told of a listing that is read back, and the buffer
 abbrev pub OneReadListing : Type 0
-OneReadListing = (text before : List ℕ) → One (ReadBack × List ℕ) (λ r. ReadsBack text before (r .1) (r .0))
+OneReadListing = (rules : Rules) (text before : List ℕ) → One (ReadBack × List ℕ) (λ r. ReadsBack rules text before (r .1) (r .0))
 
 -- what other crates of ours call: the step, with the arrays and the trace lent to it
 abbrev pub OneStep : Type 0

@@ -10,6 +10,7 @@ use Rattle.instruction.specs.Table.{wordBits}
 use Rattle.instruction.specs.Form.{tellsBit}
 use Rattle.instruction.specs.Word.{codeIn}
 use Rattle.instruction.specs.declared.Refusal.{Refusal}
+use Rattle.instruction.specs.declared.Rules.{Rules}
 use Rattle.reader.specs.Reading.{isNamed, kindOf, readingOf, refusalOf}
 use Rattle.jumps.specs.State.{Fixed}
 use Rattle.rehearsal.specs.Run.{rehearse}
@@ -31,12 +32,12 @@ pub record SaysBit (word : ℕ) (r : Refusal) : Type 0 where
 
 -- of every word
 abbrev pub WhichBit : Type 0
-WhichBit = (word : ℕ) → SaysBit word (refusalOf (readingOf word))
+WhichBit = (rules : Rules) (word : ℕ) → SaysBit word (refusalOf (readingOf rules word))
 
 -- of every check: of the word at the place told
 abbrev pub WhichBitChecked : Type 0
 WhichBitChecked =
-    (wave : ℕ) (words marks marks′ : List ℕ) (v : Verdict) → CheckIs wave words marks v marks′
+    (rules : Rules) (wave : ℕ) (words marks marks′ : List ℕ) (v : Verdict) → CheckIs rules wave words marks v marks′
     → SaysBit (getD words (v .place .0) 0) (v .refusal)
 
 -- of every run: of the word at the address where it ended

@@ -1,10 +1,11 @@
 -- Demand 3, the check: "a sequence is refused for its flow exactly when the walk defined in document 01 comes to a fault, and accepted otherwise.
--- An accepted sequence never faults in a run at the same waveform length".
+-- An accepted sequence never faults in a run at the same waveform length". Document 02, CR 3: "for either firmware, the same in check and run".
 use mathlib.Core.Path.{_≡_}
 use mathlib.Core.List.{List}
 use Prim.Native.Nat.{ℕ, _≤_, _<_}
 use lib.ListN.{length}
 use Rattle.instruction.specs.Form.{numbered}
+use Rattle.instruction.specs.declared.Rules.{Rules}
 use Rattle.sequence.specs.Bounds.{stackDepth, budgetLimit}
 use Rattle.jumps.specs.State.{Fixed}
 use Rattle.rehearsal.specs.Run.{rehearse}
@@ -17,9 +18,9 @@ use Rattle.verdict.specs.declared.Verdict.{Verdict}
 -- ---- refused exactly
 
 -- "Where input, words and groups are in order"
-pub record InOrder (wave : ℕ) (words marks : List ℕ) : Type 0 where
+pub record InOrder (rules : Rules) (wave : ℕ) (words marks : List ℕ) : Type 0 where
   pub input : checkInputRefused (length words) wave (length marks) ≡ 0
-  pub pass : (a : ℕ) → a < length words → Passes wave words a
+  pub pass : (a : ℕ) → a < length words → Passes rules wave words a
 
 -- the walk comes to this fault, and to none at a lower address
 pub record LowestFault (words : List ℕ) (v : Verdict) : Type 0 where
@@ -34,14 +35,14 @@ pub record Exactly (words : List ℕ) (v : Verdict) : Type 0 where
 
 abbrev pub RefusedExactly : Type 0
 RefusedExactly =
-    (wave : ℕ) (words marks marks′ : List ℕ) (v : Verdict)
-    → InOrder wave words marks → CheckIs wave words marks v marks′ → Exactly words v
+    (rules : Rules) (wave : ℕ) (words marks marks′ : List ℕ) (v : Verdict)
+    → InOrder rules wave words marks → CheckIs rules wave words marks v marks′ → Exactly words v
 
 -- "Marks are written only once all words pass"
 abbrev pub MarksUntouched : Type 0
 MarksUntouched =
-    (wave : ℕ) (words marks marks′ : List ℕ) (v : Verdict)
-    → (InOrder wave words marks → ⊥) → CheckIs wave words marks v marks′ → marks′ ≡ marks
+    (rules : Rules) (wave : ℕ) (words marks marks′ : List ℕ) (v : Verdict)
+    → (InOrder rules wave words marks → ⊥) → CheckIs rules wave words marks v marks′ → marks′ ≡ marks
 
 -- ---- accepted never faults
 
@@ -55,6 +56,6 @@ pub data NoFault : ℕ → Type 0 where
 -- "whatever messages, triggers, trace room and allowed budget it gets"
 abbrev pub AcceptedNeverFaults : Type 0
 AcceptedNeverFaults =
-    (wave : ℕ) (words marks marks′ : List ℕ) (v : Verdict) → CheckIs wave words marks v marks′ → v .refusal .number ≡ 0
-    → (e : Fixed) (budget : ℕ) → e .words ≡ words → e .setting .wave .0 ≡ wave → budget ≤ budgetLimit
+    (rules : Rules) (wave : ℕ) (words marks marks′ : List ℕ) (v : Verdict) → CheckIs rules wave words marks v marks′ → v .refusal .number ≡ 0
+    → (e : Fixed) (budget : ℕ) → e .words ≡ words → e .setting .wave .0 ≡ wave → e .setting .rules ≡ rules → budget ≤ budgetLimit
     → NoFault (rehearse budget e .end .number)

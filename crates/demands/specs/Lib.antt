@@ -5,3 +5,4 @@ pub mod Check
 pub mod Worked
 pub mod Answers
 pub mod Listing
+pub mod Firmware

@@ -10,6 +10,7 @@ use Rattle.instruction.specs.Bits.{pick}
 use Rattle.instruction.specs.Table.{codeOf}
 use Rattle.instruction.specs.Word.{spelledBy}
 use Rattle.instruction.specs.declared.Instruction.{Instruction}
+use Rattle.instruction.specs.declared.Rules.{Rules}
 use Rattle.instruction.specs.declared.Body.{Body}
 use Rattle.instruction.specs.declared.Body.the-variants.{Wait, Sync}
 use Rattle.reader.specs.Reading.{readingOf}
@@ -28,6 +29,7 @@ use Rattle.rehearsal.specs.Run.{onto, runOf, rehearse}
 pub record Extends (e e′ : Fixed) : Type 0 where
   pub words : e′ .words ≡ e .words
   pub wave : e′ .setting .wave ≡ e .setting .wave
+  pub rules : e′ .setting .rules ≡ e .setting .rules
   pub added : List ℕ
   pub messages : e′ .messages ≡ e .messages ++ added
   pub triggers : e .setting .triggers ≤ e′ .setting .triggers
@@ -50,8 +52,8 @@ abbrev pub isDispatched : Body → Bool
 isDispatched b = isEngine b || eqb (codeOf b) (codeOf Wait) || eqb (codeOf b) (codeOf Sync)
 
 -- a word has passed form, and what its fields spell, which the engines count, is one of those
-pub record Reads (word : ℕ) : Type 0 where
-  pub form : readingOf word ≡ Accepted (spelledBy word)
+pub record Reads (rules : Rules) (word : ℕ) : Type 0 where
+  pub form : readingOf rules word ≡ Accepted (spelledBy word)
   pub kind : isDispatched (spelledBy word .body) ≡ true
 
 -- what holds of each word of a list
@@ -60,7 +62,7 @@ Every P [] = Unit {0}
 Every P (word ∷ words) = P word × Every P words
 
 abbrev pub TraceReads : Type 0
-TraceReads = (e : Fixed) (budget : ℕ) → Every Reads (rehearse budget e .out)
+TraceReads = (e : Fixed) (budget : ℕ) → Every (Reads (e .setting .rules)) (rehearse budget e .out)
 
 -- ---- the stack
 

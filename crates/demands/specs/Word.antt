@@ -6,6 +6,7 @@ use Rattle.instruction.specs.Bits.{pick, span}
 use Rattle.instruction.specs.Table.{wholePayload, isIgnored}
 use Rattle.instruction.specs.Word.{codeIn}
 use Rattle.instruction.specs.declared.Instruction.{Instruction}
+use Rattle.instruction.specs.declared.Rules.{Rules}
 use Rattle.reader.specs.Reading.{readingOf}
 use Rattle.reader.specs.declared.Reading.the-variants.{Accepted}
 use Rattle.writer.specs.Writing.{writtenOf}
@@ -17,12 +18,12 @@ zeroed word = pick (isIgnored (codeIn word)) (word / span wholePayload * span wh
 -- a 64-bit word that reads as an instruction is what that instruction writes
 abbrev pub ReadWrite : Type 0
 ReadWrite =
-    (word : ℕ) → word < 2 ^ 64
-    → (i : Instruction) → readingOf word ≡ Accepted i
-    → writtenOf i ≡ record { number = 0; word = zeroed word }
+    (rules : Rules) (word : ℕ) → word < 2 ^ 64
+    → (i : Instruction) → readingOf rules word ≡ Accepted i
+    → writtenOf rules i ≡ record { number = 0; word = zeroed word }
 
 -- what is written with number 0 reads back as the instruction asked for
 abbrev pub WriteRead : Type 0
 WriteRead =
-    (i : Instruction) → writtenOf i .number ≡ 0
-    → readingOf (writtenOf i .word) ≡ Accepted i
+    (rules : Rules) (i : Instruction) → writtenOf rules i .number ≡ 0
+    → readingOf rules (writtenOf rules i .word) ≡ Accepted i

@@ -5,6 +5,7 @@ use mathlib.Core.List.{List, [], _∷_}
 use Prim.Native.Nat.{ℕ, _≤_}
 use lib.ListN.{length, getD, replicate}
 use Rattle.instruction.specs.Form.{numbered}
+use Rattle.instruction.specs.declared.Rules.{Rules}
 use Rattle.dispatch.specs.Engines.{engineCount}
 use Rattle.jumps.specs.State.{Did, fixedBy}
 use Rattle.jumps.specs.declared.Setting.{Setting}
@@ -85,29 +86,29 @@ table =
 
 -- ---- the claim
 
-abbrev pub answerOf : Row → Did
-answerOf r = rehearse (r .budget) (fixedBy (r .words) (r .messages) (r .room) (record { wave = record { 0 = r .wave }; triggers = r .triggers }))
+abbrev pub answerOf : Rules → Row → Did
+answerOf rules r = rehearse (r .budget) (fixedBy (r .words) (r .messages) (r .room) (record { wave = record { 0 = r .wave }; rules = rules; triggers = r .triggers }))
 
 -- whatever meets check's contract with marks long enough gives this verdict; a run's answer has this in its field
-abbrev pub Holds : Row → Says → Type 0
-Holds r (checks number place) =
-    (marks marks′ : List ℕ) (v : Verdict) → length (r .words) ≤ length marks → CheckIs (r .wave) (r .words) marks v marks′ → v ≡ verdict (numbered number) place
-Holds r (ends number) = answerOf r .end .number ≡ number
-Holds r (address a) = answerOf r .state .core .address .0 ≡ a
-Holds r (steps k) = answerOf r .state .core .steps ≡ k
-Holds r (trace k) = length (answerOf r .out) ≡ k
-Holds r (waveformTotal k) = getD (answerOf r .state .totals) 0 0 ≡ k
-Holds r (allWaits k) = answerOf r .state .waits ≡ replicate engineCount k
-Holds r (counter k) = answerOf r .state .core .counter ≡ k
-Holds r (register k) = answerOf r .state .core .register ≡ k
+abbrev pub Holds : Rules → Row → Says → Type 0
+Holds rules r (checks number place) =
+    (marks marks′ : List ℕ) (v : Verdict) → length (r .words) ≤ length marks → CheckIs rules (r .wave) (r .words) marks v marks′ → v ≡ verdict (numbered number) place
+Holds rules r (ends number) = answerOf rules r .end .number ≡ number
+Holds rules r (address a) = answerOf rules r .state .core .address .0 ≡ a
+Holds rules r (steps k) = answerOf rules r .state .core .steps ≡ k
+Holds rules r (trace k) = length (answerOf rules r .out) ≡ k
+Holds rules r (waveformTotal k) = getD (answerOf rules r .state .totals) 0 0 ≡ k
+Holds rules r (allWaits k) = answerOf rules r .state .waits ≡ replicate engineCount k
+Holds rules r (counter k) = answerOf rules r .state .core .counter ≡ k
+Holds rules r (register k) = answerOf rules r .state .core .register ≡ k
 
-abbrev pub HoldsAll : Row → List Says → Type 0
-HoldsAll r [] = Unit {0}
-HoldsAll r (s ∷ says) = Holds r s × HoldsAll r says
+abbrev pub HoldsAll : Rules → Row → List Says → Type 0
+HoldsAll rules r [] = Unit {0}
+HoldsAll rules r (s ∷ says) = Holds rules r s × HoldsAll rules r says
 
-abbrev pub WorkedSequences : List Row → Type 0
-WorkedSequences [] = Unit {0}
-WorkedSequences (r ∷ rows) = HoldsAll r (r .says) × WorkedSequences rows
+abbrev pub WorkedSequences : Rules → List Row → Type 0
+WorkedSequences rules [] = Unit {0}
+WorkedSequences rules (r ∷ rows) = HoldsAll rules r (r .says) × WorkedSequences rules rows
 
 -- P10: "though no run falls off", whatever messages, room, W, triggers and budget it gets
 abbrev pub NoRunFallsOff : List ℕ → Type 0

@@ -1,6 +1,7 @@
 // The words of a file or of standard input, as text, raw, or as a listing.
 // They come in pieces of any size; what is wrong with them is told with its place.
 use crate::listed::listing_named;
+use instruction::Rules;
 use libc::STDIN_FILENO;
 use sequence::Sequence;
 use text::same;
@@ -178,12 +179,18 @@ fn words_named(path: &[u8], hex: bool, words: &mut [u64]) -> Found {
 
 // The words of the file that an argument names; a name that ends in .lst is a listing's. Of one that is refused, the line is laid at the
 // start of what is lent.
-pub fn words_of(argument: usize, hex: bool, words: &mut [u64], line: &mut [u8]) -> Found {
+pub fn words_of(
+    argument: usize,
+    hex: bool,
+    rules: Rules,
+    words: &mut [u64],
+    line: &mut [u8],
+) -> Found {
     let mut name = io::large_buffer();
     let n = os::arg(argument, &mut name);
     let path = &name[..n];
     if !hex & ends_in(path, b".lst") {
-        return listing_named(path, words, line);
+        return listing_named(path, rules, words, line);
     }
     words_named(path, hex, words)
 }

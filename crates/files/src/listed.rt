@@ -5,6 +5,7 @@ ghost use lib.ListN.{length};
 ghost use Rattle.files.specs.Room.{textRoom};
 use crate::input::Found;
 use crate::whole::read_text;
+use instruction::Rules;
 use libc::STDIN_FILENO;
 use listing_reader::ReadBack;
 use listing_reader::read_listing;
@@ -87,8 +88,15 @@ fn refused(text: &[u8], more: bool, read: ReadBack, path: &[u8], line: &mut [u8]
     }
 }
 
-fn found_in(text: &[u8], more: bool, path: &[u8], words: &mut [u64], line: &mut [u8]) -> Found {
-    let read = read_listing(text, words);
+fn found_in(
+    text: &[u8],
+    rules: Rules,
+    more: bool,
+    path: &[u8],
+    words: &mut [u64],
+    line: &mut [u8],
+) -> Found {
+    let read = read_listing(text, rules, words);
     if read.number != 0 {
         return refused(text, more, read, path, line);
     }
@@ -101,7 +109,7 @@ fn found_in(text: &[u8], more: bool, path: &[u8], words: &mut [u64], line: &mut 
     found
 }
 
-fn listing_in(fd: i32, path: &[u8], words: &mut [u64], line: &mut [u8]) -> Found {
+fn listing_in(fd: i32, path: &[u8], rules: Rules, words: &mut [u64], line: &mut [u8]) -> Found {
     let mut text = room();
     let kept = read_text(fd, &mut text);
     if kept.failed {
@@ -109,33 +117,33 @@ fn listing_in(fd: i32, path: &[u8], words: &mut [u64], line: &mut [u8]) -> Found
         return Found::nothing();
     }
     if kept.count <= Text::ROOM {
-        return found_in(&text[..kept.count], kept.more, path, words, line);
+        return found_in(&text[..kept.count], rules, kept.more, path, words, line);
     }
     Found::nothing()
 }
 
-fn listing_in_file(path: &[u8], words: &mut [u64], line: &mut [u8]) -> Found {
+fn listing_in_file(path: &[u8], rules: Rules, words: &mut [u64], line: &mut [u8]) -> Found {
     let fd = os::open_read(path);
     if fd < 0 {
         complain_of_file(path);
         return Found::nothing();
     }
-    let found = listing_in(fd, path, words, line);
+    let found = listing_in(fd, path, rules, words, line);
     libc::close(fd);
     found
 }
 
 // The words of the listing that has this name; of one that is refused, the line is laid at the start of what is lent.
-pub fn listing_named(path: &[u8], words: &mut [u64], line: &mut [u8]) -> Found {
+pub fn listing_named(path: &[u8], rules: Rules, words: &mut [u64], line: &mut [u8]) -> Found {
     if same(path, b"-") {
-        return listing_in(STDIN_FILENO, b"standard input", words, line);
+        return listing_in(STDIN_FILENO, b"standard input", rules, words, line);
     }
-    listing_in_file(path, words, line)
+    listing_in_file(path, rules, words, line)
 }
 
 // The words of the listing that an argument names.
-pub fn listing_of(argument: usize, words: &mut [u64], line: &mut [u8]) -> Found {
+pub fn listing_of(argument: usize, rules: Rules, words: &mut [u64], line: &mut [u8]) -> Found {
     let mut name = io::large_buffer();
     let n = os::arg(argument, &mut name);
-    listing_named(&name[..n], words, line)
+    listing_named(&name[..n], rules, words, line)
 }

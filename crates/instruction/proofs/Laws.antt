@@ -12,6 +12,7 @@ use Rattle.instruction.specs.Bits.{held, laid, laidOnto, allFit}
 use Rattle.instruction.specs.Table.{opCode, engineSelect, writeFlag, payloadOf, codeOf, noopWord, valuesOf, bodies, bodyOf}
 use Rattle.instruction.specs.Form.{bodyForm, formOf}
 use Rattle.instruction.specs.Word.{codeIn, spelledBy, valuesIn, wordOf, bodyFits, fitsOf}
+use Rattle.instruction.specs.declared.Rules.{Rules}
 use Rattle.instruction.specs.declared.Instruction.{Instruction}
 use Rattle.instruction.specs.declared.Body.the-variants.{Noop}
 
@@ -53,9 +54,9 @@ word-other i h = simp (ne-eqb _ _ h)
 
 -- ---- the form of what a word spells, by its code
 
-pub form-at : (w : ℕ) {n k : ℕ} → n ≡ codeIn w → n ≡ k → bodyForm (held w writeFlag) (bodyOf k (valuesIn k w)) ≡ formOf (spelledBy w)
+pub form-at : (rules : Rules) (w : ℕ) {n k : ℕ} → n ≡ codeIn w → n ≡ k → bodyForm rules (held w writeFlag) (bodyOf k (valuesIn k w)) ≡ formOf rules (spelledBy w)
 unfolding formOf spelledBy
-form-at w e p = ap (λ (c : ℕ). bodyForm (held w writeFlag) (bodyOf c (valuesIn c w))) (sym p ∙ e)
+form-at rules w e p = ap (λ (c : ℕ). bodyForm rules (held w writeFlag) (bodyOf c (valuesIn c w))) (sym p ∙ e)
 
-pub form-past : (w : ℕ) {n : ℕ} → n ≡ codeIn w → NoneBelow 13 n → 0 ≡ formOf (spelledBy w)
-form-past w {n = n} e h = ap (bodyForm (held w writeFlag)) (sym (body-past (valuesIn n w) h)) ∙ form-at w e refl
+pub form-past : (rules : Rules) (w : ℕ) {n : ℕ} → n ≡ codeIn w → NoneBelow 13 n → 0 ≡ formOf rules (spelledBy w)
+form-past rules w {n = n} e h = ap (bodyForm rules (held w writeFlag)) (sym (body-past (valuesIn n w) h)) ∙ form-at rules w e refl

@@ -1,10 +1,12 @@
--- The form numbers 13 to 19 of document 01, which an instruction alone decides: reader and writer give the same ones.
+-- The form numbers 13 to 19 of document 01 and 24 of document 02, which an instruction alone decides: reader and writer give the same ones.
 -- "Form, from the word alone, lowest number wins."
 use Prim.Native.Nat.{ℕ, _%_, _^_}
 use mathlib.Core.Bool.{Bool, false, not, _||_, _&&_}
 use lib.Dec.{ltb, eqb, leb}
 use Rattle.instruction.specs.Bits.{_gives_else_}
 use Rattle.instruction.specs.Table.{waitOp, syncOp}
+use Rattle.instruction.specs.Rules.{isOlder}
+use Rattle.instruction.specs.declared.Rules.{Rules}
 use Rattle.instruction.specs.declared.WaveformFields.{WaveformFields}
 use Rattle.instruction.specs.declared.MarkerFields.{MarkerFields}
 use Rattle.instruction.specs.declared.ModulatorFields.{ModulatorFields}
@@ -135,9 +137,16 @@ wrongNco = breaks never never false noSuchNco never
 abbrev pub widePhase : Body → Bool
 widePhase = breaks never never false (λ f. setsPhase (f .op) && not (ltb (f .payload) (2 ^ 30))) never
 
--- 13 to 19, and 0 where none is broken: "lowest number wins"
-abbrev pub bodyForm : ℕ → Body → ℕ
-bodyForm write b =
+-- document 02, CR 3: "24 a wider count for the older kind", which takes "only a 20-bit marker count"
+abbrev pub wide : Rules → ℕ → Bool
+wide rules count = isOlder (rules .firmware) && not (ltb count (2 ^ 20))
+
+abbrev pub wideCount : Rules → Body → Bool
+wideCount rules = breaks never (λ f. plays (f .op) && wide rules (f .count .0)) false never never
+
+-- 13 to 19, "24 .. a form number, after 19", and 0 where none is broken: "lowest number wins"
+abbrev pub bodyForm : Rules → ℕ → Body → ℕ
+bodyForm rules write b =
     unflagged write b gives 13
     else noSuchOp b gives 14
     else useless b gives 15
@@ -145,7 +154,8 @@ bodyForm write b =
     else askew b gives 17
     else wrongNco b gives 18
     else widePhase b gives 19
+    else wideCount rules b gives 24
     else 0
 
-unfoldable pub formOf : Instruction → ℕ
-formOf i = bodyForm (i .write) (i .body)
+unfoldable pub formOf : Rules → Instruction → ℕ
+formOf rules i = bodyForm rules (i .write) (i .body)

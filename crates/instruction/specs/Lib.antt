@@ -1,4 +1,5 @@
 pub mod Bits
 pub mod Table
+pub mod Rules
 pub mod Form
 pub mod Word

@@ -1,11 +1,48 @@
 // The instruction: its units, its fields with their places and widths, what a word spells, and the form numbers that it alone decides.
 // Reader and writer judge words and wishes by what stands here, so that both mean the same.
 ghost use mathlib.Core.Path.{_≡_};
-ghost use Prim.Native.Nat.{_<_};
+ghost use mathlib.Core.Bool.{not, _||_};
+ghost use Prim.Native.Nat.{_<_, _^_};
+ghost use lib.Dec.{ltb, eqb};
 ghost use Rattle.instruction.specs.Bits.{_gives_else_, held, heldIn};
 ghost use Rattle.instruction.specs.Table.{engineSelect, writeFlag, engineOp, target, repeatCount, payloadOf, codeOf, waveformOf, markerOf, comparisonOf, modulatorOf, bodyOf};
-ghost use Rattle.instruction.specs.Form.{tellsBit, short, bodyForm, formOf};
+ghost use Rattle.instruction.specs.Rules.{isOlder};
+ghost use Rattle.instruction.specs.Form.{tellsBit, filled, short, oneNco, wide, bodyForm, formOf};
 ghost use Rattle.instruction.specs.Word.{codeIn, valuesIn, spelledBy, byteSpan};
+
+// ---- Rules: what the module is that a word is read for.
+
+// Firmware 2.5 to 2.33 is older.
+pub enum Firmware {
+    Current,
+    Older,
+}
+
+impl Firmware {
+    pub fn is_older(self) -> bool
+        ensures { λ r. ⌜ r ≡ isOlder self ⌝ }
+    {
+        match self {
+            Firmware::Current => false,
+            Firmware::Older => true,
+        }
+    }
+}
+
+// All that reading a word depends on beside the word.
+pub struct Rules {
+    pub firmware: Firmware,
+}
+
+impl Rules {
+    pub const CURRENT: Rules = Rules {
+        firmware: Firmware::Current,
+    };
+
+    pub const OLDER: Rules = Rules {
+        firmware: Firmware::Older,
+    };
+}
 
 // ---- Units: samples, quad-samples and word addresses are counted apart.
 
@@ -52,7 +89,7 @@ impl WordAddress {
     }
 
     fn prefetch_form(self) -> u64
-        ensures { λ r. ⌜ r ≡ bodyForm 0 (Body.Prefetch self) ⌝ }
+        ensures { λ r. ⌜ ((rules : Rules) → r ≡ bodyForm rules 0 (Body.Prefetch self)) ⌝ }
     {
         let address = self.0;
         if address % WordAddress::PREFETCHED != 0 {
@@ -92,7 +129,7 @@ impl EngineOp {
 
     // The form of WAIT or SYNC.
     fn wait_form(write: u64) -> u64
-        ensures { λ r. ⌜ r ≡ bodyForm write Body.Wait ⌝ }
+        ensures { λ r. ⌜ ((rules : Rules) → r ≡ bodyForm rules write Body.Wait) ⌝ }
     {
         if write == 0 {
             Refusal::NO_WRITE_FLAG
@@ -132,7 +169,7 @@ impl WaveformFields {
     }
 
     pub fn form(self) -> u64
-        ensures { λ r. ⌜ r ≡ bodyForm 0 (Body.Waveform self) ⌝ }
+        ensures { λ r. ⌜ ((rules : Rules) → r ≡ bodyForm rules 0 (Body.Waveform self)) ⌝ }
     {
         let op = self.op;
         let ta = self.ta;
@@ -169,6 +206,9 @@ impl MarkerFields {
 
     pub const COUNT: Field = Field { low: 0, width: 32 };
 
+    // Older firmware takes a count of 20 bits.
+    pub const OLDER_COUNTS: u64 = 1 << 20;
+
     pub fn spelled_by(word: u64) -> MarkerFields
         ensures { λ r. ⌜ r ≡ markerOf (heldIn word (payloadOf (codeOf (Body.Marker r)))) ⌝ }
     {
@@ -183,22 +223,36 @@ impl MarkerFields {
         }
     }
 
-    pub fn form(self) -> u64
-        ensures { λ r. ⌜ r ≡ bodyForm 0 (Body.Marker self) ⌝ }
+    // 16, 24 or 0, of the count of a play.
+    fn play_form(count: u64, rules: Rules) -> u64
+        ensures { λ r. ⌜ r ≡ (short count gives 16 else wide rules count gives 24 else 0) ⌝ }
+    {
+        let firmware = rules.firmware;
+        if count < QuadSamples::SHORTEST {
+            return Refusal::TOO_SHORT;
+        }
+        if firmware.is_older() & !(count < MarkerFields::OLDER_COUNTS) {
+            return Refusal::WIDE_COUNT;
+        }
+        0
+    }
+
+    pub fn form(self, rules: Rules) -> u64
+        ensures { λ r. ⌜ r ≡ bodyForm rules 0 (Body.Marker self) ⌝ }
     {
         let op = self.op;
         let transition = self.transition;
         let state = self.state;
         let count = self.count.0;
-        let awaits = (op == EngineOp::WAIT_TRIGGER) | (op == EngineOp::WAIT_SYNC);
+        if op == EngineOp::PLAY {
+            return MarkerFields::play_form(count, rules);
+        }
         if op == EngineOp::PREFETCH {
             return Refusal::NO_SUCH_OP;
         }
+        let awaits = (op == EngineOp::WAIT_TRIGGER) | (op == EngineOp::WAIT_SYNC);
         if awaits & ((transition != 0) | (state != 0) | (count != 0)) {
             return Refusal::USELESS_FIELD;
-        }
-        if (op == EngineOp::PLAY) & (count < QuadSamples::SHORTEST) {
-            return Refusal::TOO_SHORT;
         }
         0
     }
@@ -298,35 +352,82 @@ impl ModulatorFields {
         }
     }
 
+    fn is_one(nco: u64) -> bool
+        ensures { λ r. ⌜ r ≡ oneNco nco ⌝ }
+    {
+        (nco == ModulatorFields::FIRST_NCO) | (nco == ModulatorFields::SECOND_NCO)
+    }
+
+    fn modulate_form(nco: u64, count: u64) -> u64
+        ensures { λ r. ⌜ r ≡ (short count gives 16 else not (oneNco nco) gives 18 else 0) ⌝ }
+    {
+        if count < QuadSamples::SHORTEST {
+            return Refusal::TOO_SHORT;
+        }
+        if !ModulatorFields::is_one(nco) {
+            return Refusal::WRONG_NCO;
+        }
+        0
+    }
+
+    // 18 or 0, of an op that takes one NCO or both.
+    fn nco_form(nco: u64) -> u64
+        ensures { λ r. ⌜ r ≡ (not (oneNco nco || eqb nco 3) gives 18 else 0) ⌝ }
+    {
+        if !(ModulatorFields::is_one(nco) | (nco == ModulatorFields::BOTH_NCOS)) {
+            return Refusal::WRONG_NCO;
+        }
+        0
+    }
+
+    fn reset_form(nco: u64, payload: u64) -> u64
+        ensures { λ r. ⌜ r ≡ (filled payload gives 15 else not (oneNco nco || eqb nco 3) gives 18 else 0) ⌝ }
+    {
+        if payload != 0 {
+            return Refusal::USELESS_FIELD;
+        }
+        ModulatorFields::nco_form(nco)
+    }
+
+    fn wait_form(nco: u64, payload: u64) -> u64
+        ensures { λ r. ⌜ r ≡ (filled nco || filled payload gives 15 else 0) ⌝ }
+    {
+        if (nco != 0) | (payload != 0) {
+            return Refusal::USELESS_FIELD;
+        }
+        0
+    }
+
+    fn phase_form(nco: u64, phase: u64) -> u64
+        ensures { λ r. ⌜ r ≡ (not (oneNco nco || eqb nco 3) gives 18 else not (ltb phase (2 ^ 30)) gives 19 else 0) ⌝ }
+    {
+        let chosen = ModulatorFields::nco_form(nco);
+        if chosen != 0 {
+            return chosen;
+        }
+        if !(phase < ModulatorFields::PHASES) {
+            return Refusal::WIDE_PHASE;
+        }
+        0
+    }
+
     pub fn form(self) -> u64
-        ensures { λ r. ⌜ r ≡ bodyForm 0 (Body.Modulator self) ⌝ }
+        ensures { λ r. ⌜ ((rules : Rules) → r ≡ bodyForm rules 0 (Body.Modulator self)) ⌝ }
     {
         let op = self.op;
         let nco = self.nco;
         let payload = self.payload;
-        let awaits = (op == ModulatorFields::WAIT_TRIGGER) | (op == ModulatorFields::WAIT_SYNC);
-        let modulates = op == ModulatorFields::MODULATE;
-        let resets = op == ModulatorFields::RESET_PHASE;
-        let sets = (op == ModulatorFields::SET_INCREMENT)
-            | (op == ModulatorFields::SET_OFFSET)
-            | (op == ModulatorFields::UPDATE_FRAME);
-        let is_one = (nco == ModulatorFields::FIRST_NCO) | (nco == ModulatorFields::SECOND_NCO);
-        if op == ModulatorFields::RESERVED {
-            return Refusal::NO_SUCH_OP;
+        match op {
+            ModulatorFields::MODULATE => ModulatorFields::modulate_form(nco, payload),
+            ModulatorFields::RESET_PHASE => ModulatorFields::reset_form(nco, payload),
+            ModulatorFields::WAIT_TRIGGER => ModulatorFields::wait_form(nco, payload),
+            ModulatorFields::SET_INCREMENT => ModulatorFields::phase_form(nco, payload),
+            ModulatorFields::WAIT_SYNC => ModulatorFields::wait_form(nco, payload),
+            ModulatorFields::SET_OFFSET => ModulatorFields::phase_form(nco, payload),
+            ModulatorFields::RESERVED => Refusal::NO_SUCH_OP,
+            ModulatorFields::UPDATE_FRAME => ModulatorFields::phase_form(nco, payload),
+            _ => 0,
         }
-        if awaits & ((nco != 0) | (payload != 0)) | resets & (payload != 0) {
-            return Refusal::USELESS_FIELD;
-        }
-        if modulates & (payload < QuadSamples::SHORTEST) {
-            return Refusal::TOO_SHORT;
-        }
-        if modulates & !is_one | (resets | sets) & !(is_one | (nco == ModulatorFields::BOTH_NCOS)) {
-            return Refusal::WRONG_NCO;
-        }
-        if sets & !(payload < ModulatorFields::PHASES) {
-            return Refusal::WIDE_PHASE;
-        }
-        0
     }
 }
 
@@ -358,6 +459,9 @@ impl Refusal {
     pub const WIDE_PHASE: u64 = 19;
 
     pub const TOO_WIDE: u64 = 23;
+
+    // Of a marker's play, for older firmware.
+    pub const WIDE_COUNT: u64 = 24;
 
     // A bit is set that is not named: the header's reserved one, one above the highest field, one in a gap.
     pub const RESERVED_BIT: u64 = 111;
@@ -454,12 +558,12 @@ impl Instruction {
     }
 
     // The form number of the instruction that the fields of a word spell.
-    pub fn form_in(word: u64) -> u64
-        ensures { λ r. ⌜ r ≡ formOf (spelledBy word) ⌝ }
+    pub fn form_in(word: u64, rules: Rules) -> u64
+        ensures { λ r. ⌜ r ≡ formOf rules (spelledBy word) ⌝ }
     {
         match Instruction::code_in(word) {
             Body::WAVEFORM => WaveformFields::spelled_by(word).form(),
-            Body::MARKER => MarkerFields::spelled_by(word).form(),
+            Body::MARKER => MarkerFields::spelled_by(word).form(rules),
             Body::WAIT => EngineOp::wait_form(Instruction::write_in(word)),
             Body::LOAD_REPEAT => 0,
             Body::REPEAT => 0,
@@ -475,12 +579,12 @@ impl Instruction {
         }
     }
 
-    // The form number 13 to 19, or 0.
-    pub fn form(self) -> u64
-        ensures { λ r. ⌜ r ≡ formOf self ⌝ }
+    // The form number 13 to 19 or 24, or 0.
+    pub fn form(self, rules: Rules) -> u64
+        ensures { λ r. ⌜ r ≡ formOf rules self ⌝ }
     {
         let body = self.body;
-        body.form(self.write)
+        body.form(self.write, rules)
     }
 }
 
@@ -556,12 +660,12 @@ impl Body {
         }
     }
 
-    fn form(self, write: u64) -> u64
-        ensures { λ r. ⌜ r ≡ bodyForm write self ⌝ }
+    fn form(self, write: u64, rules: Rules) -> u64
+        ensures { λ r. ⌜ r ≡ bodyForm rules write self ⌝ }
     {
         match self {
             Body::Waveform(f) => f.form(),
-            Body::Marker(f) => f.form(),
+            Body::Marker(f) => f.form(rules),
             Body::Wait => EngineOp::wait_form(write),
             Body::LoadRepeat(_) => 0,
             Body::Repeat(_) => 0,

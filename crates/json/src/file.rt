@@ -2,6 +2,7 @@
 // A name is bytes: what is no UTF-8 in it is told by the numbers that Python's `os.fsencode` turns back.
 ghost use Prim.Native.Nat.{_<_};
 ghost use lib.ListN.{length};
+use instruction::Rules;
 use libc::STDOUT_FILENO;
 use told::say;
 use told::say_number;
@@ -139,6 +140,17 @@ pub fn say_key(name: &[u8]) {
 pub fn say_member(name: &[u8], n: u64) {
     say_key(name);
     say_number(n);
+}
+
+// The firmware that an answer is for.
+pub fn say_firmware(rules: Rules) {
+    let firmware = rules.firmware;
+    say_key(b"firmware");
+    if firmware.is_older() {
+        say(b"\"older\"");
+    } else {
+        say(b"\"current\"");
+    }
 }
 
 // An object begins with its file, which an argument names, and the exit status that it would have alone.

@@ -1,5 +1,6 @@
 // Words as JSON: what the listing's line of a word has, each entry by its name; and a trace as words of text.
 use instruction::Body;
+use instruction::Rules;
 use libc::STDOUT_FILENO;
 use listing::Listing;
 use reader::coarse_of;
@@ -149,8 +150,8 @@ fn put_line(row: &mut [u8; Row::SIZE], line: &[u8], keys: &[u8], fields: usize) 
     pen.at
 }
 
-fn fields_of(word: u64) -> usize {
-    if coarse_of(word) != 0 {
+fn fields_of(word: u64, rules: Rules) -> usize {
+    if coarse_of(word, rules) != 0 {
         return 0;
     }
     let i = instruction_in(word);
@@ -180,27 +181,27 @@ fn say_line(line: &[u8], fields: usize) {
 }
 
 // One more word, as an object.
-fn say_word(place: u64, word: u64) {
+fn say_word(place: u64, word: u64, rules: Rules) {
     say_comma(place);
-    let fields = fields_of(word);
+    let fields = fields_of(word, rules);
     let mut line = [0u8; Listing::LINE];
-    let n = listing::line(place, word, &mut line);
+    let n = listing::line(place, word, rules, &mut line);
     if n <= Listing::LINE {
         say_line(&line[..n], fields);
     }
 }
 
-fn say_each(words: &[u64]) {
+fn say_each(words: &[u64], rules: Rules) {
     let mut a: usize = 0;
     while a < words.len() {
-        say_word(a as u64, words[a]);
+        say_word(a as u64, words[a], rules);
         a += 1;
     }
 }
 
-pub fn say_words(words: &[u64]) {
+pub fn say_words(words: &[u64], rules: Rules) {
     say(b"[");
-    say_each(words);
+    say_each(words, rules);
     say(b"]");
 }
 

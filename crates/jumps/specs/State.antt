@@ -15,7 +15,7 @@ use Rattle.jumps.specs.declared.State.{State}
 use Rattle.jumps.specs.declared.Setting.{Setting}
 use Rattle.jumps.specs.declared.Stepped.{Stepped}
 
--- what stays the same in a run: the words, the messages, the room in the trace, and the setting (W and triggers)
+-- what stays the same in a run: the words, the messages, the room in the trace, and the setting (W, the rules that words are read by, and triggers)
 pub record Fixed : Type 0 where
   pub words : List ℕ
   pub messages : List ℕ

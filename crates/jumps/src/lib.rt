@@ -14,6 +14,7 @@ use instruction::Comparison;
 use instruction::Instruction;
 use instruction::QuadSamples;
 use instruction::Refusal;
+use instruction::Rules;
 use instruction::WordAddress;
 use sequence::Sequence;
 
@@ -47,6 +48,7 @@ pub struct State {
 // What is fixed in a run beside its words, messages and trace.
 pub struct Setting {
     pub wave: QuadSamples,
+    pub rules: Rules,
     pub triggers: u64,
 }
 

@@ -13,6 +13,7 @@ use lib.ListN.{length, take, drop, length-append}
 use Rattle.instruction.specs.Bits.{pick}
 use Rattle.instruction.specs.Table.{codeOf}
 use Rattle.instruction.specs.declared.Instruction.{Instruction}
+use Rattle.instruction.specs.declared.Rules.{Rules}
 use Rattle.instruction.specs.declared.Body.the-variants.{Noop}
 use Rattle.reader.specs.Reading.{readingOf}
 use Rattle.buffer.specs.Put.{put, Fits, Put}
@@ -48,83 +49,83 @@ byte-room k w b m h l = lt-of-lt-of-le (byte-grows k w b h l) (pow-mono {j = 64}
 -- ---- line after line
 
 -- the lines of the first a words are on the page
-pub record Laid (bytes : List ℕ) (n : ℕ) (before : List ℕ) (at : ℕ) (page : List ℕ) (end a : ℕ) : Type 0 where
+pub record Laid (rules : Rules) (bytes : List ℕ) (n : ℕ) (before : List ℕ) (at : ℕ) (page : List ℕ) (end a : ℕ) : Type 0 where
   pub upto : a ≤ n
   pub done : List ℕ
-  pub text : textOf (linesFrom bytes 0 n) ≡ done ++ textOf (linesFrom bytes a (n - a))
+  pub text : textOf (linesFrom rules bytes 0 n) ≡ done ++ textOf (linesFrom rules bytes a (n - a))
   pub puts : Put done before at page end
 
-abbrev lineOf : List ℕ → ℕ → List ℕ
-lineOf bytes a = lineText (number a) (entriesIn (readingOf (wordAt bytes a)))
+abbrev lineOf : Rules → List ℕ → ℕ → List ℕ
+lineOf rules bytes a = lineText (number a) (entriesIn (readingOf rules (wordAt bytes a)))
 
-module _ (bytes : List ℕ) (n : ℕ) (before : List ℕ) (at : ℕ) (h : Fits (textOf (linesFrom bytes 0 n)) before at) where
-  pub laid-start : Laid bytes n before at before at 0
-  laid-start = record { upto = omega arith; done = []; text = ap (λ (k : ℕ). textOf (linesFrom bytes 0 k)) (all n); puts = record { wrote = sym (put-none before at); end = sym (add-zero at) } }
+module _ (rules : Rules) (bytes : List ℕ) (n : ℕ) (before : List ℕ) (at : ℕ) (h : Fits (textOf (linesFrom rules bytes 0 n)) before at) where
+  pub laid-start : Laid rules bytes n before at before at 0
+  laid-start = record { upto = omega arith; done = []; text = ap (λ (k : ℕ). textOf (linesFrom rules bytes 0 k)) (all n); puts = record { wrote = sym (put-none before at); end = sym (add-zero at) } }
     where
       all : (n : ℕ) → n ≡ n - 0
       all n = omega arith
 
-  module _ {page : List ℕ} {end a : ℕ} (l : Laid bytes n before at page end a) where
-    fits : Fits (l .done ++ textOf (linesFrom bytes a (n - a))) before at
+  module _ {page : List ℕ} {end a : ℕ} (l : Laid rules bytes n before at page end a) where
+    fits : Fits (l .done ++ textOf (linesFrom rules bytes a (n - a))) before at
     fits = subst (λ (t : List ℕ). Fits t before at) (l .text) h
 
     pub laid-length : length page ≡ length before
-    laid-length = ap length (l .puts .wrote) ∙ length-put before (l .done) at (fits-first (l .done) (textOf (linesFrom bytes a (n - a))) before at fits)
+    laid-length = ap length (l .puts .wrote) ∙ length-put before (l .done) at (fits-first (l .done) (textOf (linesFrom rules bytes a (n - a))) before at fits)
 
     module _ (m : a < n) where
-      one-more : textOf (linesFrom bytes a (n - a)) ≡ lineOf bytes a ++ textOf (linesFrom bytes (a + 1) (n - (a + 1)))
-      one-more = ap (λ (k : ℕ). textOf (linesFrom bytes a k)) (less a n m)
+      one-more : textOf (linesFrom rules bytes a (n - a)) ≡ lineOf rules bytes a ++ textOf (linesFrom rules bytes (a + 1) (n - (a + 1)))
+      one-more = ap (λ (k : ℕ). textOf (linesFrom rules bytes a k)) (less a n m)
         where
           less : (a n : ℕ) → a < n → n - a ≡ suc (n - (a + 1))
           less a n m = omega arith
 
-      rest-fits : Fits (lineOf bytes a ++ textOf (linesFrom bytes (a + 1) (n - (a + 1)))) page end
-      rest-fits = subst (λ (t : List ℕ). Fits t page end) one-more (fits-next (l .done) (textOf (linesFrom bytes a (n - a))) before at fits (l .puts))
+      rest-fits : Fits (lineOf rules bytes a ++ textOf (linesFrom rules bytes (a + 1) (n - (a + 1)))) page end
+      rest-fits = subst (λ (t : List ℕ). Fits t page end) one-more (fits-next (l .done) (textOf (linesFrom rules bytes a (n - a))) before at fits (l .puts))
 
-      pub laid-fits : Fits (lineOf bytes a) page end
-      laid-fits = fits-first (lineOf bytes a) (textOf (linesFrom bytes (a + 1) (n - (a + 1)))) page end rest-fits
+      pub laid-fits : Fits (lineOf rules bytes a) page end
+      laid-fits = fits-first (lineOf rules bytes a) (textOf (linesFrom rules bytes (a + 1) (n - (a + 1)))) page end rest-fits
 
-      pub laid-next : {page′ : List ℕ} {end′ : ℕ} → Put (lineOf bytes a) page end page′ end′ → Laid bytes n before at page′ end′ (a + 1)
+      pub laid-next : {page′ : List ℕ} {end′ : ℕ} → Put (lineOf rules bytes a) page end page′ end′ → Laid rules bytes n before at page′ end′ (a + 1)
       laid-next {page′ = page′} {end′ = end′} p =
           record {
             upto = omega arith;
-            done = l .done ++ lineOf bytes a;
-            text = l .text ∙ ap (λ (t : List ℕ). l .done ++ t) one-more ∙ sym (append-assoc (l .done) (lineOf bytes a) (textOf (linesFrom bytes (a + 1) (n - (a + 1)))));
-            puts = puts-both (l .done) (lineOf bytes a) before at within (l .puts) p;
+            done = l .done ++ lineOf rules bytes a;
+            text = l .text ∙ ap (λ (t : List ℕ). l .done ++ t) one-more ∙ sym (append-assoc (l .done) (lineOf rules bytes a) (textOf (linesFrom rules bytes (a + 1) (n - (a + 1)))));
+            puts = puts-both (l .done) (lineOf rules bytes a) before at within (l .puts) p;
           }
         where
-          within : Fits (l .done ++ lineOf bytes a) before at
+          within : Fits (l .done ++ lineOf rules bytes a) before at
           within =
               omega (
                 arith,
                 fits,
                 ap length one-more,
-                length-append (l .done) (textOf (linesFrom bytes a (n - a))),
-                length-append (l .done) (lineOf bytes a),
-                length-append (lineOf bytes a) (textOf (linesFrom bytes (a + 1) (n - (a + 1)))),
+                length-append (l .done) (textOf (linesFrom rules bytes a (n - a))),
+                length-append (l .done) (lineOf rules bytes a),
+                length-append (lineOf rules bytes a) (textOf (linesFrom rules bytes (a + 1) (n - (a + 1)))),
               )
 
-    pub laid-end : n ≤ a → Put (textOf (linesFrom bytes 0 n)) before at page end
+    pub laid-end : n ≤ a → Put (textOf (linesFrom rules bytes 0 n)) before at page end
     laid-end m =
         subst (λ (t : List ℕ). Put t before at page end)
-        (sym (l .text ∙ ap (λ (k : ℕ). l .done ++ textOf (linesFrom bytes a k)) (none a n m) ∙ append-nil (l .done))) (l .puts)
+        (sym (l .text ∙ ap (λ (k : ℕ). l .done ++ textOf (linesFrom rules bytes a k)) (none a n m) ∙ append-nil (l .done))) (l .puts)
       where
         none : (a n : ℕ) → n ≤ a → n - a ≡ 0
         none a n m = omega arith
 
 -- ---- the whole listing
 
-module _ (bytes : List ℕ) where
-  pub listing-8 : (length bytes % wordBytes ≡ 0 → ⊥) → listingOf bytes ≡ letters "refused" ++ restText (number 8 ∷ [])
+module _ (rules : Rules) (bytes : List ℕ) where
+  pub listing-8 : (length bytes % wordBytes ≡ 0 → ⊥) → listingOf rules bytes ≡ letters "refused" ++ restText (number 8 ∷ [])
   unfolding listingOf
   listing-8 h = rw (ne-eqb (length bytes % wordBytes) 0 h) (append-nil (letters "refused" ++ restText (number 8 ∷ [])))
 
-  pub listing-9 : length bytes % wordBytes ≡ 0 → listedWords < length bytes / wordBytes → listingOf bytes ≡ letters "refused" ++ restText (number 9 ∷ [])
+  pub listing-9 : length bytes % wordBytes ≡ 0 → listedWords < length bytes / wordBytes → listingOf rules bytes ≡ letters "refused" ++ restText (number 9 ∷ [])
   unfolding listingOf
   listing-9 e l = rw (eq-eqb (length bytes % wordBytes) 0 e, lt-ltb listedWords (length bytes / wordBytes) l) (append-nil (letters "refused" ++ restText (number 9 ∷ [])))
 
   pub listing-lines : length bytes % wordBytes ≡ 0 → length bytes / wordBytes ≤ listedWords
-      → listingOf bytes ≡ (letters "aps2-listing" ++ restText (number 1 ∷ [])) ++ textOf (linesFrom bytes 0 (length bytes / wordBytes))
+      → listingOf rules bytes ≡ (letters "aps2-listing" ++ restText (number 1 ∷ [])) ++ textOf (linesFrom rules bytes 0 (length bytes / wordBytes))
   unfolding listingOf
   listing-lines e l = rw (eq-eqb (length bytes % wordBytes) 0 e, le-ltb listedWords (length bytes / wordBytes) l)
 
@@ -153,16 +154,16 @@ pub heard-long : (n : ℕ) → heardSize ≤ n → heardOf n ≡ heardSize - wor
 heard-long n l = ap (λ (b : Bool). pick b n (heardSize - wordBytes + n % wordBytes)) (le-ltb n heardSize l)
 
 pub heard-same : HeardSame
-heard-same input bytes e same = by (decLt (length input) heardSize) (ℕ-discrete (length input % wordBytes) 0)
+heard-same rules input bytes e same = by (decLt (length input) heardSize) (ℕ-discrete (length input % wordBytes) 0)
   where
     long : (n m : ℕ) → heardSize ≤ n → m ≡ heardSize - wordBytes + n % wordBytes → (m % wordBytes ≡ n % wordBytes) × (listedWords < m / wordBytes) × (listedWords < n / wordBytes)
     long n m l e = (omega arith, omega arith, omega arith)
 
-    by : Dec (length input < heardSize) → Dec (length input % wordBytes ≡ 0) → listingOf bytes ≡ listingOf input
-    by (yes l) d = ap listingOf (same l)
+    by : Dec (length input < heardSize) → Dec (length input % wordBytes ≡ 0) → listingOf rules bytes ≡ listingOf rules input
+    by (yes l) d = ap (listingOf rules) (same l)
     by (no h) (yes z) =
         let x = long (length input) (length bytes) (omega arith) (e ∙ heard-long (length input) (omega arith)) in
-        listing-9 bytes (x .0 ∙ z) (x .1) ∙ sym (listing-9 input z (x .2))
+        listing-9 rules bytes (x .0 ∙ z) (x .1) ∙ sym (listing-9 rules input z (x .2))
     by (no h) (no z) =
         let x = long (length input) (length bytes) (omega arith) (e ∙ heard-long (length input) (omega arith)) in
-        listing-8 bytes (λ q. z (sym (x .0) ∙ q)) ∙ sym (listing-8 input z)
+        listing-8 rules bytes (λ q. z (sym (x .0) ∙ q)) ∙ sym (listing-8 rules input z)

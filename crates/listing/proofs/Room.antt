@@ -17,6 +17,7 @@ use Rattle.instruction.specs.Form.{tellsBit}
 use Rattle.instruction.specs.Word.{codeIn, valuesIn, spelledBy}
 use Rattle.instruction.specs.declared.Field.{Field}
 use Rattle.instruction.specs.declared.Refusal.{Refusal}
+use Rattle.instruction.specs.declared.Rules.{Rules}
 use Rattle.instruction.specs.declared.Instruction.{Instruction}
 use Rattle.instruction.specs.declared.Body.{Body}
 use Rattle.instruction.specs.declared.Body.the-variants.{Waveform, Marker, Wait, LoadRepeat, Repeat, Cmp, Goto, Call, Return, Sync, Modulator, LoadCmp, Prefetch, Noop}
@@ -204,8 +205,8 @@ bad-short r n b = by (tellsBit (r .number))
     by true = numbers-short (11 ∷ r .number ∷ r .bit ∷ []) (lit< tt, (n, (b, tt)))
     by false = let x = numbers-short (r .number ∷ []) (n, tt) in omega (arith, x)
 
-bit-small : (w : ℕ) → refusedWith w (formIn w) .bit < 2 ^ widest
-bit-small w = by (tellsBit (formIn w))
+bit-small : (rules : Rules) (w : ℕ) → refusedWith w (formIn rules w) .bit < 2 ^ widest
+bit-small rules w = by (tellsBit (formIn rules w))
   where
     by : (t : Bool) → pick t (highestStray w) 0 < 2 ^ widest
     by true = omega (arith, stray-inside w)
@@ -217,28 +218,28 @@ spelled-short w =
     instruction-short (spelledBy w) (lt-of-lt-of-le (mod-lt (w / 2 ^ engineSelect .low) (lit< tt)) (lit≤ tt)) (lt-of-lt-of-le (mod-lt (w / 2 ^ writeFlag .low) (lit< tt)) (lit≤ tt))
     (body-small (codeIn w) (valuesIn (codeIn w) w) (values-small w))
 
-rest-short : (w : ℕ) → length (restText (entriesIn (readingOf w))) ≤ restSize
-rest-short w = by (ℕ-discrete w noopWord) (ℕ-discrete (formIn w) 0)
+rest-short : (rules : Rules) (w : ℕ) → length (restText (entriesIn (readingOf rules w))) ≤ restSize
+rest-short rules w = by (ℕ-discrete w noopWord) (ℕ-discrete (formIn rules w) 0)
   where
-    told : {q : Reading} → readingOf w ≡ q → length (restText (entriesIn q)) ≤ restSize → length (restText (entriesIn (readingOf w))) ≤ restSize
+    told : {q : Reading} → readingOf rules w ≡ q → length (restText (entriesIn q)) ≤ restSize → length (restText (entriesIn (readingOf rules w))) ≤ restSize
     told e h = subst (λ (q : Reading). length (restText (entriesIn q)) ≤ restSize) (sym e) h
 
-    by : Dec (w ≡ noopWord) → Dec (formIn w ≡ 0) → length (restText (entriesIn (readingOf w))) ≤ restSize
-    by (yes p) d = told (reads-noop w p) (lit≤ tt)
-    by (no p) (yes z) = told (reads w p z) (spelled-short w)
-    by (no p) (no z) = told (refuses w p z) (omega (arith, bad-short (refusedWith w (formIn w)) (lt-of-lt-of-le (form-small w) (lit≤ tt)) (bit-small w)))
+    by : Dec (w ≡ noopWord) → Dec (formIn rules w ≡ 0) → length (restText (entriesIn (readingOf rules w))) ≤ restSize
+    by (yes p) d = told (reads-noop rules w p) (lit≤ tt)
+    by (no p) (yes z) = told (reads rules w p z) (spelled-short w)
+    by (no p) (no z) = told (refuses rules w p z) (omega (arith, bad-short (refusedWith w (formIn rules w)) (lt-of-lt-of-le (form-small rules w) (lit≤ tt)) (bit-small rules w)))
 
-pub line-short : (a w : ℕ) → a < 10 ^ 20 → length (lineText (number a) (entriesIn (readingOf w))) ≤ lineSize
-line-short a w l = omega (arith, length-append (decimal a) (restText (entriesIn (readingOf w))), decimal-short 19 a l, rest-short w)
+pub line-short : (rules : Rules) (a w : ℕ) → a < 10 ^ 20 → length (lineText (number a) (entriesIn (readingOf rules w))) ≤ lineSize
+line-short rules a w l = omega (arith, length-append (decimal a) (restText (entriesIn (readingOf rules w))), decimal-short 19 a l, rest-short rules w)
 
-pub lines-short : (bytes : List ℕ) (a n : ℕ) → a + n ≤ 10 ^ 20 → length (textOf (linesFrom bytes a n)) ≤ n * lineSize
-lines-short bytes a zero l = omega arith
-lines-short bytes a (suc n) l =
+pub lines-short : (rules : Rules) (bytes : List ℕ) (a n : ℕ) → a + n ≤ 10 ^ 20 → length (textOf (linesFrom rules bytes a n)) ≤ n * lineSize
+lines-short rules bytes a zero l = omega arith
+lines-short rules bytes a (suc n) l =
     omega (
       arith,
-      length-append (lineText (number a) (entriesIn (readingOf (wordAt bytes a)))) (textOf (linesFrom bytes (a + 1) n)),
-      line-short a (wordAt bytes a) (omega arith),
-      lines-short bytes (a + 1) n (omega arith),
+      length-append (lineText (number a) (entriesIn (readingOf rules (wordAt bytes a)))) (textOf (linesFrom rules bytes (a + 1) n)),
+      line-short rules a (wordAt bytes a) (omega arith),
+      lines-short rules bytes (a + 1) n (omega arith),
     )
 
 -- ---- the whole
@@ -247,20 +248,20 @@ pub pair-short : (text : List ℕ) (n : ℕ) → length text ≤ 12 → n < 10 �
 pair-short text n l h =
     omega (arith, length-append text (restText (number n ∷ [])), length-append (decimal n) (restText []), decimal-short 0 n h)
 
-pub listing-short : (bytes : List ℕ) → length (listingOf bytes) ≤ pageSize
-listing-short bytes = by (ℕ-discrete (length bytes % wordBytes) 0) (decLt listedWords (length bytes / wordBytes))
+pub listing-short : (rules : Rules) (bytes : List ℕ) → length (listingOf rules bytes) ≤ pageSize
+listing-short rules bytes = by (ℕ-discrete (length bytes % wordBytes) 0) (decLt listedWords (length bytes / wordBytes))
   where
     lines : List ℕ
-    lines = textOf (linesFrom bytes 0 (length bytes / wordBytes))
+    lines = textOf (linesFrom rules bytes 0 (length bytes / wordBytes))
 
-    by : Dec (length bytes % wordBytes ≡ 0) → Dec (listedWords < length bytes / wordBytes) → length (listingOf bytes) ≤ pageSize
-    by (no h) d = omega (arith, ap length (listing-8 bytes h), pair-short (letters "refused") 8 (lit≤ tt) (lit< tt))
-    by (yes e) (yes l) = omega (arith, ap length (listing-9 bytes e l), pair-short (letters "refused") 9 (lit≤ tt) (lit< tt))
+    by : Dec (length bytes % wordBytes ≡ 0) → Dec (listedWords < length bytes / wordBytes) → length (listingOf rules bytes) ≤ pageSize
+    by (no h) d = omega (arith, ap length (listing-8 rules bytes h), pair-short (letters "refused") 8 (lit≤ tt) (lit< tt))
+    by (yes e) (yes l) = omega (arith, ap length (listing-9 rules bytes e l), pair-short (letters "refused") 9 (lit≤ tt) (lit< tt))
     by (yes e) (no l) =
         omega (
           arith,
-          ap length (listing-lines bytes e (omega arith)),
+          ap length (listing-lines rules bytes e (omega arith)),
           length-append (letters "aps2-listing" ++ restText (number 1 ∷ [])) lines,
           pair-short (letters "aps2-listing") 1 (lit≤ tt) (lit< tt),
-          lines-short bytes 0 (length bytes / wordBytes) (omega arith),
+          lines-short rules bytes 0 (length bytes / wordBytes) (omega arith),
         )

@@ -10,6 +10,7 @@ use Rattle.instruction.specs.Bits.{pick}
 use Rattle.instruction.specs.Table.{codeOf, isNoop, isIgnored, valuesOf}
 use Rattle.instruction.specs.Form.{tellsBit}
 use Rattle.instruction.specs.declared.Refusal.{Refusal}
+use Rattle.instruction.specs.declared.Rules.{Rules}
 use Rattle.instruction.specs.declared.Instruction.{Instruction}
 use Rattle.instruction.specs.declared.Body.{Body}
 use Rattle.instruction.specs.declared.Body.the-variants.{Wait, Sync}
@@ -57,17 +58,17 @@ abbrev pub entriesIn : Reading → List Entry
 entriesIn (Accepted i) = entriesOf i
 entriesIn (Refused r) = name "BAD" ∷ map number (badNumbers r)
 
-abbrev pub lineOf : ℕ → ℕ → Line
-lineOf a word = record { first = number a; rest = entriesIn (readingOf word) }
+abbrev pub lineOf : Rules → ℕ → ℕ → Line
+lineOf rules a word = record { first = number a; rest = entriesIn (readingOf rules word) }
 
 -- the lines of words, from an address on
-abbrev pub wordLines : ℕ → List ℕ → List Line
-wordLines a [] = []
-wordLines a (w ∷ ws) = lineOf a w ∷ wordLines (a + 1) ws
+abbrev pub wordLines : Rules → ℕ → List ℕ → List Line
+wordLines rules a [] = []
+wordLines rules a (w ∷ ws) = lineOf rules a w ∷ wordLines rules (a + 1) ws
 
 -- the lines of n words of an input, from an address on
-abbrev pub linesFrom : List ℕ → ℕ → ℕ → List Line
-linesFrom bytes a n = wordLines a (wordsFrom bytes a n)
+abbrev pub linesFrom : Rules → List ℕ → ℕ → ℕ → List Line
+linesFrom rules bytes a n = wordLines rules a (wordsFrom bytes a n)
 
 -- ---- the listing
 
@@ -83,22 +84,22 @@ abbrev pub headerText : List ℕ
 headerText = lineText (header .first) (header .rest)
 
 -- words as they are listed, however many
-abbrev pub listed : List ℕ → List ℕ
-listed words = textOf (header ∷ wordLines 0 words)
+abbrev pub listed : Rules → List ℕ → List ℕ
+listed rules words = textOf (header ∷ wordLines rules 0 words)
 
 -- "`refused`, tab, `8`"
 abbrev pub refused : ℕ → Line
 refused n = record { first = name "refused"; rest = number n ∷ [] }
 
 -- "A byte count not divisible by 8 prints only .. 8; more than 2,048 words only .. 9; 8 first. An empty input prints the header line."
-abbrev pub linesOf : List ℕ → List Line
-linesOf bytes =
+abbrev pub linesOf : Rules → List ℕ → List Line
+linesOf rules bytes =
     pick (not (eqb (length bytes % wordBytes) 0)) (refused 8 ∷ [])
     (pick (ltb listedWords (length bytes / wordBytes)) (refused 9 ∷ [])
-    (header ∷ linesFrom bytes 0 (length bytes / wordBytes)))
+    (header ∷ linesFrom rules bytes 0 (length bytes / wordBytes)))
 
-unfoldable pub listingOf : List ℕ → List ℕ
-listingOf bytes = textOf (linesOf bytes)
+unfoldable pub listingOf : Rules → List ℕ → List ℕ
+listingOf rules bytes = textOf (linesOf rules bytes)
 
 -- what `list` and `line` answer, and what they leave in the buffer: the text where it fits, and else what was there
 pub record Listed (text before after : List ℕ) (r : ℕ) : Type 0 where
@@ -118,8 +119,8 @@ heardOf total = pick (ltb total heardSize) total (heardSize - wordBytes + total 
 -- bytes in place of an input have its listing
 abbrev pub HeardSame : Type 0
 HeardSame =
-    (input bytes : List ℕ) → length bytes ≡ heardOf (length input) → (length input < heardSize → bytes ≡ input)
-    → listingOf bytes ≡ listingOf input
+    (rules : Rules) (input bytes : List ℕ) → length bytes ≡ heardOf (length input) → (length input < heardSize → bytes ≡ input)
+    → listingOf rules bytes ≡ listingOf rules input
 
 -- ---- what the functions ask
 

@@ -12,6 +12,7 @@ ghost use Rattle.listing.specs.Listing.{wordAt, shownOf, entriesOf, badN
 use instruction::Body;
 use instruction::Instruction;
 use instruction::Refusal;
+use instruction::Rules;
 use names::put_name;
 use page::put_end;
 use page::put_four;
@@ -126,11 +127,11 @@ fn put_reading(page: &mut [u8], at: usize, reading: Reading) -> usize
 }
 
 // The line of a word at an address.
-fn put_line(page: &mut [u8], at: usize, address: u64, word: u64) -> usize
-    requires { ⌜ Fits (lineText (number address) (entriesIn (readingOf word))) (now page) at ⌝ }
-    ensures { λ r. ⌜ Put (lineText (number address) (entriesIn (readingOf word))) (now (page .entry)) at (now (page .exit)) r ⌝ }
+fn put_line(page: &mut [u8], at: usize, address: u64, word: u64, rules: Rules) -> usize
+    requires { ⌜ Fits (lineText (number address) (entriesIn (readingOf rules word))) (now page) at ⌝ }
+    ensures { λ r. ⌜ Put (lineText (number address) (entriesIn (readingOf rules word))) (now (page .entry)) at (now (page .exit)) r ⌝ }
 {
-    let reading = Reading::of(word, coarse_of(word), instruction_in(word));
+    let reading = Reading::of(word, coarse_of(word, rules), instruction_in(word));
     let told = put_number(page, at, address);
     put_reading(page, told, reading)
 }
@@ -168,23 +169,23 @@ fn word_at(bytes: &[u8], a: usize) -> u64
 }
 
 // The lines of the first n words.
-fn put_lines(page: &mut [u8], at: usize, bytes: &[u8], n: usize) -> usize
-    requires { ⌜ Fits (textOf (linesFrom (now bytes) 0 n)) (now page) at × (n * wordBytes ≤ length (now bytes)) ⌝ }
-    ensures { λ r. ⌜ Put (textOf (linesFrom (now (bytes .entry)) 0 n)) (now (page .entry)) at (now (page .exit)) r ⌝ }
+fn put_lines(page: &mut [u8], at: usize, bytes: &[u8], n: usize, rules: Rules) -> usize
+    requires { ⌜ Fits (textOf (linesFrom rules (now bytes) 0 n)) (now page) at × (n * wordBytes ≤ length (now bytes)) ⌝ }
+    ensures { λ r. ⌜ Put (textOf (linesFrom rules (now (bytes .entry)) 0 n)) (now (page .entry)) at (now (page .exit)) r ⌝ }
 {
     let mut end = at;
     let mut a: usize = 0;
     while a < n {
-        end = put_line(page, end, a as u64, word_at(bytes, a));
+        end = put_line(page, end, a as u64, word_at(bytes, a), rules);
         a += 1;
     }
     end
 }
 
 // The whole listing, from the start of a page.
-fn lay_out(bytes: &[u8], page: &mut [u8]) -> usize
+fn lay_out(bytes: &[u8], page: &mut [u8], rules: Rules) -> usize
     requires { ⌜ pageSize ≤ length (now page) ⌝ }
-    ensures { λ r. ⌜ Put (listingOf (now (bytes .entry))) (now (page .entry)) 0 (now (page .exit)) r ⌝ }
+    ensures { λ r. ⌜ Put (listingOf rules (now (bytes .entry))) (now (page .entry)) 0 (now (page .exit)) r ⌝ }
 {
     if bytes.len() % Listing::WORD_BYTES != 0 {
         return put_pair(page, b"refused", Listing::NOT_WHOLE);
@@ -194,7 +195,7 @@ fn lay_out(bytes: &[u8], page: &mut [u8]) -> usize
         return put_pair(page, b"refused", Listing::TOO_MANY);
     }
     let from = put_header(page);
-    put_lines(page, from, bytes, n)
+    put_lines(page, from, bytes, n, rules)
 }
 
 // The first n bytes of a page, at the start of a buffer.
@@ -210,11 +211,11 @@ fn hand_over(page: &[u8], n: usize, out: &mut [u8])
 }
 
 // The length of the listing, which is written where it fits.
-pub fn list(bytes: &[u8], out: &mut [u8]) -> usize
-    ensures { λ r. ⌜ Listed (listingOf (now (bytes .entry))) (now (out .entry)) (now (out .exit)) r ⌝ }
+pub fn list(bytes: &[u8], rules: Rules, out: &mut [u8]) -> usize
+    ensures { λ r. ⌜ Listed (listingOf rules (now (bytes .entry))) (now (out .entry)) (now (out .exit)) r ⌝ }
 {
     let mut page = [0u8; Listing::PAGE];
-    let n = lay_out(bytes, &mut page);
+    let n = lay_out(bytes, &mut page, rules);
     if out.len() < n {
         return n;
     }
@@ -223,11 +224,11 @@ pub fn list(bytes: &[u8], out: &mut [u8]) -> usize
 }
 
 // The line of one word at an address, and its length; it is written where it fits.
-pub fn line(address: u64, word: u64, out: &mut [u8]) -> usize
-    ensures { λ r. ⌜ Listed (lineText (number address) (entriesIn (readingOf word))) (now (out .entry)) (now (out .exit)) r ⌝ }
+pub fn line(address: u64, word: u64, rules: Rules, out: &mut [u8]) -> usize
+    ensures { λ r. ⌜ Listed (lineText (number address) (entriesIn (readingOf rules word))) (now (out .entry)) (now (out .exit)) r ⌝ }
 {
     let mut page = [0u8; Listing::LINE];
-    let n = put_line(&mut page, 0, address, word);
+    let n = put_line(&mut page, 0, address, word, rules);
     if out.len() < n {
         return n;
     }

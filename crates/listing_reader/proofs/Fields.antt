@@ -13,6 +13,7 @@ use lib.Seq.{getD-drop}
 use Rattle.instruction.specs.Bits.{pick}
 use Rattle.instruction.specs.Table.{bodyOf}
 use Rattle.instruction.specs.declared.Instruction.{Instruction}
+use Rattle.instruction.specs.declared.Rules.{Rules}
 use Rattle.instruction.specs.declared.Body.{Body}
 use Rattle.buffer.specs.Put.{put}
 use Rattle.buffer.proofs.Laws.{put-none, length-put, put-more, put-front}
@@ -197,51 +198,51 @@ module _ (vs : List ℕ) {values : List ℕ} (e : values ≡ put sixZeros 0 vs) 
 
 -- ---- a line whose fields are known
 
-module _ (row : ℕ) (address a : ℕ) (ns : List (List ℕ)) where
-  pub known-61 : hasFields row ns ≡ false → notWritten 61 ≡ knownRead row address a ns
+module _ (rules : Rules) (row : ℕ) (address a : ℕ) (ns : List (List ℕ)) where
+  pub known-61 : hasFields row ns ≡ false → notWritten 61 ≡ knownRead rules row address a ns
   known-61 e = rw e
 
-  pub known-62 : hasFields row ns ≡ true → (address ≡ a → ⊥) → notWritten 62 ≡ knownRead row address a ns
+  pub known-62 : hasFields row ns ≡ true → (address ≡ a → ⊥) → notWritten 62 ≡ knownRead rules row address a ns
   known-62 e n = rw (e, ne-eqb address a n)
 
-  pub known-written : hasFields row ns ≡ true → address ≡ a → writtenOf (instructionOf row (map value ns)) ≡ knownRead row address a ns
+  pub known-written : hasFields row ns ≡ true → address ≡ a → writtenOf rules (instructionOf row (map value ns)) ≡ knownRead rules row address a ns
   known-written e n = rw (e, eq-eqb address a n)
 
-module _ (a : ℕ) (f : List ℕ) where
-  pub fields-61 : (fs : List (List ℕ)) → isNumber f ≡ false → notWritten 61 ≡ fieldsRead a true (f ∷ fs)
+module _ (rules : Rules) (a : ℕ) (f : List ℕ) where
+  pub fields-61 : (fs : List (List ℕ)) → isNumber f ≡ false → notWritten 61 ≡ fieldsRead rules a true (f ∷ fs)
   fields-61 fs e = rw e
 
-  pub fields-alone : isNumber f ≡ true → notWritten 61 ≡ fieldsRead a true (f ∷ [])
+  pub fields-alone : isNumber f ≡ true → notWritten 61 ≡ fieldsRead rules a true (f ∷ [])
   fields-alone e = rw e
 
   module _ (n : List ℕ) (ns : List (List ℕ)) (e : isNumber f ≡ true) where
     two : leb 2 (suc (suc (length ns))) ≡ true
     two = le-leb 2 (suc (suc (length ns))) (omega arith)
 
-    pub fields-known : rowNamed n < nameCount → knownRead (rowNamed n) (value f) a ns ≡ fieldsRead a true (f ∷ n ∷ ns)
+    pub fields-known : rowNamed n < nameCount → knownRead rules (rowNamed n) (value f) a ns ≡ fieldsRead rules a true (f ∷ n ∷ ns)
     fields-known h = rw (e, two, lt-ltb (rowNamed n) nameCount h)
 
-    pub fields-unknown : nameCount ≤ rowNamed n → pick (not (eqb (value f) a)) (notWritten 62) (notWritten 63) ≡ fieldsRead a true (f ∷ n ∷ ns)
+    pub fields-unknown : nameCount ≤ rowNamed n → pick (not (eqb (value f) a)) (notWritten 62) (notWritten 63) ≡ fieldsRead rules a true (f ∷ n ∷ ns)
     fields-unknown h = rw (e, two, le-ltb (rowNamed n) nameCount h)
 
 -- ---- a line, as its fields are found
 
-module _ (line : List ℕ) (a : ℕ) {r : Counted} (n : r ≡ countedAt 0 line) where
+module _ (rules : Rules) (line : List ℕ) (a : ℕ) {r : Counted} (n : r ≡ countedAt 0 line) where
   abbrev whole : Row
   whole = record { bytes = line; ended = true }
 
   abbrev address : List ℕ
   address = fieldAt 0 line
 
-  by-fields : (fs : List (List ℕ)) → cut tab line ≡ fs → fieldsRead a true fs ≡ lineRead a whole
+  by-fields : (fs : List (List ℕ)) → cut tab line ≡ fs → fieldsRead rules a true fs ≡ lineRead rules a whole
   unfolding lineRead
-  by-fields fs e = ap (fieldsRead a true) (sym e)
+  by-fields fs e = ap (fieldsRead rules a true) (sym e)
 
   first : cut tab line ≡ address ∷ fieldsAfter (placeOf tab 0 line) line
   first = field-next line 0 refl (omega arith) ∙ ap (λ (p : List ℕ). p ∷ fieldsAfter (placeOf tab 0 line) line) (found-piece tab 0 line refl)
 
-  pub line-not : r .plain ≡ false → notWritten 61 ≡ lineRead a whole
-  line-not p = fields-61 a address (fieldsAfter (placeOf tab 0 line) line) (number-not 0 line n p) ∙ by-fields _ first
+  pub line-not : r .plain ≡ false → notWritten 61 ≡ lineRead rules a whole
+  line-not p = fields-61 rules a address (fieldsAfter (placeOf tab 0 line) line) (number-not 0 line n p) ∙ by-fields _ first
 
   module _ (p : r .plain ≡ true) where
     s : (isNumber address ≡ true) × (r .value ≡ value address) × (r .end ≡ placeOf tab 0 line)
@@ -250,9 +251,9 @@ module _ (line : List ℕ) (a : ℕ) {r : Counted} (n : r ≡ countedAt 0 line) 
     start : cut tab line ≡ address ∷ fieldsAfter (r .end) line
     start = first ∙ ap (λ (i : ℕ). address ∷ fieldsAfter i line) (sym (s .2))
 
-    pub line-alone : length line ≤ r .end → notWritten 61 ≡ lineRead a whole
+    pub line-alone : length line ≤ r .end → notWritten 61 ≡ lineRead rules a whole
     line-alone h =
-        fields-alone a address (s .0)
+        fields-alone rules a address (s .0)
         ∙ by-fields _ (start ∙ ap (λ (fs : List (List ℕ)). address ∷ fs) (after-last line (r .end) h))
 
     module _ (h : r .end < length line) {later : ℕ} (g : later ≡ placeOf tab (r .end + 1) line) where
@@ -269,33 +270,33 @@ module _ (line : List ℕ) (a : ℕ) {r : Counted} (n : r ≡ countedAt 0 line) 
       two-fields = start ∙ ap (λ (fs : List (List ℕ)). address ∷ fs) (after-next line (r .end) h g)
 
       module _ {row : ℕ} (m : row ≡ rowNamed name) where
-        pub line-known : row < nameCount → knownRead row (r .value) a (fieldsAfter later line) ≡ lineRead a whole
+        pub line-known : row < nameCount → knownRead rules row (r .value) a (fieldsAfter later line) ≡ lineRead rules a whole
         line-known l =
-            ap₂ (λ (k x : ℕ). knownRead k x a (fieldsAfter later line)) m (s .1)
-            ∙ fields-known a address name (fieldsAfter later line) (s .0) (omega (arith, m))
+            ap₂ (λ (k x : ℕ). knownRead rules k x a (fieldsAfter later line)) m (s .1)
+            ∙ fields-known rules a address name (fieldsAfter later line) (s .0) (omega (arith, m))
             ∙ by-fields _ two-fields
 
-        pub line-unknown : nameCount ≤ row → pick (not (eqb (r .value) a)) (notWritten 62) (notWritten 63) ≡ lineRead a whole
+        pub line-unknown : nameCount ≤ row → pick (not (eqb (r .value) a)) (notWritten 62) (notWritten 63) ≡ lineRead rules a whole
         line-unknown l =
             ap (λ (x : ℕ). pick (not (eqb x a)) (notWritten 62) (notWritten 63)) (s .1)
-            ∙ fields-unknown a address name (fieldsAfter later line) (s .0) (omega (arith, m))
+            ∙ fields-unknown rules a address name (fieldsAfter later line) (s .0) (omega (arith, m))
             ∙ by-fields _ two-fields
 
 -- ---- a line whose name is known, as its numbers are gathered
 
-module _ (row address a : ℕ) (h : row < nameCount) (ns : List (List ℕ)) {count : ℕ} (c : count ≡ fieldCount row)
+module _ (rules : Rules) (row address a : ℕ) (h : row < nameCount) (ns : List (List ℕ)) {count : ℕ} (c : count ≡ fieldCount row)
     {after : List ℕ} {r : Bool} (g : NumbersRead count ns sixZeros after r) where
   tested : hasFields row ns ≡ r
   tested = has-fields row ns h ∙ ap (λ (k : ℕ). eqb (length ns) k && allNumbers ns) (sym c) ∙ sym (g .test)
 
-  pub gathered-61 : r ≡ false → notWritten 61 ≡ knownRead row address a ns
-  gathered-61 e = known-61 row address a ns (tested ∙ e)
+  pub gathered-61 : r ≡ false → notWritten 61 ≡ knownRead rules row address a ns
+  gathered-61 e = known-61 rules row address a ns (tested ∙ e)
 
-  pub gathered-62 : r ≡ true → (address ≡ a → ⊥) → notWritten 62 ≡ knownRead row address a ns
-  gathered-62 e = known-62 row address a ns (tested ∙ e)
+  pub gathered-62 : r ≡ true → (address ≡ a → ⊥) → notWritten 62 ≡ knownRead rules row address a ns
+  gathered-62 e = known-62 rules row address a ns (tested ∙ e)
 
   pub gathered-written : r ≡ true → address ≡ a → {body : Body} → body ≡ bodyOf row (getD after 2 0 ∷ getD after 3 0 ∷ getD after 4 0 ∷ getD after 5 0 ∷ [])
-      → writtenOf (record { engine = getD after 0 0; write = getD after 1 0; body = body }) ≡ knownRead row address a ns
+      → writtenOf rules (record { engine = getD after 0 0; write = getD after 1 0; body = body }) ≡ knownRead rules row address a ns
   gathered-written e n b =
-      ap writtenOf ((λ j. record { engine = getD after 0 0; write = getD after 1 0; body = b j }) ∙ laid-instruction (map value ns) (g .values e) row)
-      ∙ known-written row address a ns (tested ∙ e) n
+      ap (writtenOf rules) ((λ j. record { engine = getD after 0 0; write = getD after 1 0; body = b j }) ∙ laid-instruction (map value ns) (g .values e) row)
+      ∙ known-written rules row address a ns (tested ∙ e) n

@@ -11,6 +11,7 @@ use lib.Dec.{eqb, leb}
 use lib.ListN.{length, set, take, drop, length-append}
 use lib.Seq.{take-all}
 use Rattle.instruction.specs.Bits.{pick}
+use Rattle.instruction.specs.declared.Rules.{Rules}
 use Rattle.buffer.specs.Put.{put, Put}
 use Rattle.buffer.proofs.Laws.{put-none, length-put, put-more, put-front, front-put}
 use Rattle.text.specs.Cut.{lineFeed, sameText, Row, fieldsIn, placeOf, rowAt, rowsIn}
@@ -55,32 +56,32 @@ module _ (text before : List ℕ) {page : List ℕ} {r : ℕ} (p : Put headerTex
 
 -- ---- the number of a line
 
-module _ (room a : ℕ) (row : Row) where
-  pub number-open : row .ended ≡ false → 61 ≡ lineNumber room a row
+module _ (rules : Rules) (room a : ℕ) (row : Row) where
+  pub number-open : row .ended ≡ false → 61 ≡ lineNumber rules room a row
   unfolding lineNumber lineRead
   number-open e = rw e
 
-  pub number-bad : {n : ℕ} → n ≡ lineRead a row .number → (n ≡ 0 → ⊥) → n ≡ lineNumber room a row
+  pub number-bad : {n : ℕ} → n ≡ lineRead rules a row .number → (n ≡ 0 → ⊥) → n ≡ lineNumber rules room a row
   unfolding lineNumber
-  number-bad e h = e ∙ sym (ap (λ (t : Bool). pick (not t) (lineRead a row .number) (pick (leb room a) 64 0)) (ne-eqb (lineRead a row .number) 0 (λ q. h (e ∙ q))))
+  number-bad e h = e ∙ sym (ap (λ (t : Bool). pick (not t) (lineRead rules a row .number) (pick (leb room a) 64 0)) (ne-eqb (lineRead rules a row .number) 0 (λ q. h (e ∙ q))))
 
-  module _ (e : lineRead a row .number ≡ 0) where
-    passed : lineNumber room a row ≡ pick (leb room a) 64 0
+  module _ (e : lineRead rules a row .number ≡ 0) where
+    passed : lineNumber rules room a row ≡ pick (leb room a) 64 0
     unfolding lineNumber
-    passed = ap (λ (t : Bool). pick (not t) (lineRead a row .number) (pick (leb room a) 64 0)) (eq-eqb (lineRead a row .number) 0 e)
+    passed = ap (λ (t : Bool). pick (not t) (lineRead rules a row .number) (pick (leb room a) 64 0)) (eq-eqb (lineRead rules a row .number) 0 e)
 
-    pub number-full : room ≤ a → 64 ≡ lineNumber room a row
+    pub number-full : room ≤ a → 64 ≡ lineNumber rules room a row
     number-full h = sym (passed ∙ ap (λ (t : Bool). pick t 64 0) (le-leb room a h))
 
-    pub number-none : a < room → 0 ≡ lineNumber room a row
+    pub number-none : a < room → 0 ≡ lineNumber rules room a row
     number-none h = sym (passed ∙ ap (λ (t : Bool). pick t 64 0) (lt-leb room a h))
 
   -- a good line has its line feed, and a word that there is room for
-  module _ (e : lineNumber room a row ≡ 0) where
-    pub good-read : lineRead a row .number ≡ 0
-    good-read = by (ℕ-discrete (lineRead a row .number) 0)
+  module _ (e : lineNumber rules room a row ≡ 0) where
+    pub good-read : lineRead rules a row .number ≡ 0
+    good-read = by (ℕ-discrete (lineRead rules a row .number) 0)
       where
-        by : Dec (lineRead a row .number ≡ 0) → lineRead a row .number ≡ 0
+        by : Dec (lineRead rules a row .number ≡ 0) → lineRead rules a row .number ≡ 0
         by (yes p) = p
         by (no p) = number-bad refl p ∙ e
 
@@ -98,9 +99,9 @@ module _ (room a : ℕ) (row : Row) where
         by true f = f
         by false f = absurd (omega (arith, e, number-open f))
 
-    pub good-word : lineRead a row .word ≡ wordIn row
+    pub good-word : lineRead rules a row .word ≡ wordIn rules row
     unfolding lineRead wordIn
-    good-word = last (not (isShaped (row .ended) (fieldsIn row))) (not (eqb _ a)) (not (isKnown (fieldsIn row))) (writtenOf (wishIn (fieldsIn row))) good-read
+    good-word = last (not (isShaped (row .ended) (fieldsIn row))) (not (eqb _ a)) (not (isKnown (fieldsIn row))) (writtenOf rules (wishIn (fieldsIn row))) good-read
       where
         last : (p q r : Bool) (w : Written) → pick p (notWritten 61) (pick q (notWritten 62) (pick r (notWritten 63) w)) .number ≡ 0
             → pick p (notWritten 61) (pick q (notWritten 62) (pick r (notWritten 63) w)) .word ≡ w .word
@@ -110,49 +111,49 @@ module _ (room a : ℕ) (row : Row) where
         last false false false w f = refl
 
 -- a line with its line feed, as it is read
-pub read-number : (text : List ℕ) (at end a : ℕ) → end < length text → {read : Written}
-    → read ≡ lineRead a (record { bytes = take (end - at) (drop at text); ended = true }) → read .number ≡ lineRead a (rowAt text at end) .number
-read-number text at end a h e =
+pub read-number : (rules : Rules) (text : List ℕ) (at end a : ℕ) → end < length text → {read : Written}
+    → read ≡ lineRead rules a (record { bytes = take (end - at) (drop at text); ended = true }) → read .number ≡ lineRead rules a (rowAt text at end) .number
+read-number rules text at end a h e =
     ap (λ (x : Written). x .number) e
-    ∙ ap (λ (t : Bool). lineRead a (record { bytes = take (end - at) (drop at text); ended = t }) .number) (sym (lt-ltb end (length text) h))
+    ∙ ap (λ (t : Bool). lineRead rules a (record { bytes = take (end - at) (drop at text); ended = t }) .number) (sym (lt-ltb end (length text) h))
 
 -- ---- lines, one after the other
 
-module _ (room a : ℕ) (row : Row) (rows : List Row) where
-  pub told-next : lineNumber room a row ≡ 0 → toldOf room a (row ∷ rows) ≡ toldOf room (a + 1) rows
+module _ (rules : Rules) (room a : ℕ) (row : Row) (rows : List Row) where
+  pub told-next : lineNumber rules room a row ≡ 0 → toldOf rules room a (row ∷ rows) ≡ toldOf rules room (a + 1) rows
   unfolding toldOf
-  told-next e = ap (λ (t : Bool). pick t (toldOf room (a + 1) rows) (refusedAt (lineNumber room a row) (a + 2))) (eq-eqb (lineNumber room a row) 0 e)
+  told-next e = ap (λ (t : Bool). pick t (toldOf rules room (a + 1) rows) (refusedAt (lineNumber rules room a row) (a + 2))) (eq-eqb (lineNumber rules room a row) 0 e)
 
-  pub told-bad : (lineNumber room a row ≡ 0 → ⊥) → toldOf room a (row ∷ rows) ≡ refusedAt (lineNumber room a row) (a + 2)
+  pub told-bad : (lineNumber rules room a row ≡ 0 → ⊥) → toldOf rules room a (row ∷ rows) ≡ refusedAt (lineNumber rules room a row) (a + 2)
   unfolding toldOf
-  told-bad e = ap (λ (t : Bool). pick t (toldOf room (a + 1) rows) (refusedAt (lineNumber room a row) (a + 2))) (ne-eqb (lineNumber room a row) 0 e)
+  told-bad e = ap (λ (t : Bool). pick t (toldOf rules room (a + 1) rows) (refusedAt (lineNumber rules room a row) (a + 2))) (ne-eqb (lineNumber rules room a row) 0 e)
 
-  pub told-good : toldOf room a (row ∷ rows) .number ≡ 0 → (lineNumber room a row ≡ 0) × (toldOf room (a + 1) rows .number ≡ 0)
-  told-good e = by (ℕ-discrete (lineNumber room a row) 0)
+  pub told-good : toldOf rules room a (row ∷ rows) .number ≡ 0 → (lineNumber rules room a row ≡ 0) × (toldOf rules room (a + 1) rows .number ≡ 0)
+  told-good e = by (ℕ-discrete (lineNumber rules room a row) 0)
     where
-      by : Dec (lineNumber room a row ≡ 0) → (lineNumber room a row ≡ 0) × (toldOf room (a + 1) rows .number ≡ 0)
+      by : Dec (lineNumber rules room a row ≡ 0) → (lineNumber rules room a row ≡ 0) × (toldOf rules room (a + 1) rows .number ≡ 0)
       by (yes p) = (p, sym (ap (λ (t : ReadBack). t .number) (told-next p)) ∙ e)
       by (no p) = absurd (p (sym (ap (λ (t : ReadBack). t .number) (told-bad p)) ∙ e))
 
-pub told-none : (room a : ℕ) → toldOf room a [] ≡ record { number = 0; line = 0; count = a }
+pub told-none : (rules : Rules) (room a : ℕ) → toldOf rules room a [] ≡ record { number = 0; line = 0; count = a }
 unfolding toldOf
-told-none room a = refl
+told-none rules room a = refl
 
-pub record Judging (text : List ℕ) (from room at a : ℕ) : Type 0 where
+pub record Judging (rules : Rules) (text : List ℕ) (from room at a : ℕ) : Type 0 where
   pub order : a + from ≤ at
-  pub same : toldOf room a (rowsIn (drop at text)) ≡ toldOf room 0 (rowsIn (drop from text))
+  pub same : toldOf rules room a (rowsIn (drop at text)) ≡ toldOf rules room 0 (rowsIn (drop from text))
 
-module _ (text : List ℕ) (from room : ℕ) where
-  pub judging-start : Judging text from room from 0
+module _ (rules : Rules) (text : List ℕ) (from room : ℕ) where
+  pub judging-start : Judging rules text from room from 0
   judging-start = record { order = omega arith; same = refl }
 
-  module _ {at a : ℕ} (j : Judging text from room at a) where
-    pub judging-end : length text ≤ at → record { number = 0; line = 0; count = a } ≡ toldOf room 0 (rowsIn (drop from text))
-    judging-end h = sym (told-none room a) ∙ ap (toldOf room a) (sym (rows-none text at h)) ∙ j .same
+  module _ {at a : ℕ} (j : Judging rules text from room at a) where
+    pub judging-end : length text ≤ at → record { number = 0; line = 0; count = a } ≡ toldOf rules room 0 (rowsIn (drop from text))
+    judging-end h = sym (told-none rules room a) ∙ ap (toldOf rules room a) (sym (rows-none text at h)) ∙ j .same
 
     module _ (h : at < length text) {end : ℕ} (f : end ≡ placeOf lineFeed at text) where
-      next : toldOf room a (rowAt text at end ∷ rowsIn (drop (end + 1) text)) ≡ toldOf room 0 (rowsIn (drop from text))
-      next = ap (toldOf room a) (sym (rows-next text at f h)) ∙ j .same
+      next : toldOf rules room a (rowAt text at end ∷ rowsIn (drop (end + 1) text)) ≡ toldOf rules room 0 (rowsIn (drop from text))
+      next = ap (toldOf rules room a) (sym (rows-next text at f h)) ∙ j .same
 
       pub judging-order : at ≤ end
       judging-order = found-order lineFeed at text f
@@ -160,42 +161,42 @@ module _ (text : List ℕ) (from room : ℕ) where
       pub judging-inside : end ≤ length text
       judging-inside = found-inside lineFeed at text f (omega arith)
 
-      module _ {n : ℕ} (e : n ≡ lineNumber room a (rowAt text at end)) where
-        pub judging-bad : (n ≡ 0 → ⊥) → refusedAt n (a + 2) ≡ toldOf room 0 (rowsIn (drop from text))
+      module _ {n : ℕ} (e : n ≡ lineNumber rules room a (rowAt text at end)) where
+        pub judging-bad : (n ≡ 0 → ⊥) → refusedAt n (a + 2) ≡ toldOf rules room 0 (rowsIn (drop from text))
         judging-bad p =
             ap (λ (k : ℕ). refusedAt k (a + 2)) e
-            ∙ sym (told-bad room a (rowAt text at end) (rowsIn (drop (end + 1) text)) (λ q. p (e ∙ q)))
+            ∙ sym (told-bad rules room a (rowAt text at end) (rowsIn (drop (end + 1) text)) (λ q. p (e ∙ q)))
             ∙ next
 
-        pub judging-next : n ≡ 0 → Judging text from room (end + 1) (a + 1)
+        pub judging-next : n ≡ 0 → Judging rules text from room (end + 1) (a + 1)
         judging-next p =
             record {
               order = omega (arith, j .order, found-order lineFeed at text f);
-              same = sym (told-next room a (rowAt text at end) (rowsIn (drop (end + 1) text)) (sym e ∙ p)) ∙ next;
+              same = sym (told-next rules room a (rowAt text at end) (rowsIn (drop (end + 1) text)) (sym e ∙ p)) ∙ next;
             }
 
 -- ---- words from the front
 
-pub record Filling (text : List ℕ) (from : ℕ) (before words : List ℕ) (at a : ℕ) : Type 0 where
-  pub good : toldOf (length before) a (rowsIn (drop at text)) .number ≡ 0
+pub record Filling (rules : Rules) (text : List ℕ) (from : ℕ) (before words : List ℕ) (at a : ℕ) : Type 0 where
+  pub good : toldOf rules (length before) a (rowsIn (drop at text)) .number ≡ 0
   pub few : a ≤ length before
   pub done : List ℕ
   pub size : length done ≡ a
-  pub all : map wordIn (rowsIn (drop from text)) ≡ done ++ map wordIn (rowsIn (drop at text))
+  pub all : map (wordIn rules) (rowsIn (drop from text)) ≡ done ++ map (wordIn rules) (rowsIn (drop at text))
   pub wrote : words ≡ put before 0 done
 
-module _ (text : List ℕ) (from : ℕ) (before : List ℕ) where
-  pub filling-start : toldOf (length before) 0 (rowsIn (drop from text)) .number ≡ 0 → Filling text from before before from 0
+module _ (rules : Rules) (text : List ℕ) (from : ℕ) (before : List ℕ) where
+  pub filling-start : toldOf rules (length before) 0 (rowsIn (drop from text)) .number ≡ 0 → Filling rules text from before before from 0
   filling-start e = record { good = e; few = omega arith; done = []; size = refl; all = refl; wrote = sym (put-none before 0) }
 
-  module _ {words : List ℕ} {at a : ℕ} (g : Filling text from before words at a) where
+  module _ {words : List ℕ} {at a : ℕ} (g : Filling rules text from before words at a) where
     pub filling-length : length words ≡ length before
     filling-length = ap length (g .wrote) ∙ length-put before (g .done) 0 (omega (arith, g .few, g .size))
 
-    pub filling-end : length text ≤ at → words ≡ put before 0 (map wordIn (rowsIn (drop from text)))
+    pub filling-end : length text ≤ at → words ≡ put before 0 (map (wordIn rules) (rowsIn (drop from text)))
     filling-end h =
         g .wrote
-        ∙ ap (put before 0) (sym (g .all ∙ ap (λ (rows : List Row). g .done ++ map wordIn rows) (rows-none text at h) ∙ append-nil (g .done)))
+        ∙ ap (put before 0) (sym (g .all ∙ ap (λ (rows : List Row). g .done ++ map (wordIn rules) rows) (rows-none text at h) ∙ append-nil (g .done)))
 
     module _ (h : at < length text) {end : ℕ} (f : end ≡ placeOf lineFeed at text) where
       abbrev row : Row
@@ -204,34 +205,34 @@ module _ (text : List ℕ) (from : ℕ) (before : List ℕ) where
       abbrev rows : List Row
       rows = rowsIn (drop (end + 1) text)
 
-      both : (lineNumber (length before) a row ≡ 0) × (toldOf (length before) (a + 1) rows .number ≡ 0)
-      both = told-good (length before) a row rows (ap (λ (l : List Row). toldOf (length before) a l .number) (sym (rows-next text at f h)) ∙ g .good)
+      both : (lineNumber rules (length before) a row ≡ 0) × (toldOf rules (length before) (a + 1) rows .number ≡ 0)
+      both = told-good rules (length before) a row rows (ap (λ (l : List Row). toldOf rules (length before) a l .number) (sym (rows-next text at f h)) ∙ g .good)
 
       pub filling-room : a < length before
-      filling-room = good-room (length before) a row (both .0)
+      filling-room = good-room rules (length before) a row (both .0)
 
       pub filling-order : at ≤ end
       filling-order = found-order lineFeed at text f
 
       pub filling-ended : end < length text
-      filling-ended = ltb-true end (length text) (good-ended (length before) a row (both .0))
+      filling-ended = ltb-true end (length text) (good-ended rules (length before) a row (both .0))
 
       whole : record { bytes = take (end - at) (drop at text); ended = true } ≡ row
       whole = ap (λ (t : Bool). record { bytes = take (end - at) (drop at text); ended = t }) (sym (lt-ltb end (length text) filling-ended))
 
-      pub filling-next : {read : Written} → read ≡ lineRead a (record { bytes = take (end - at) (drop at text); ended = true })
-          → Filling text from before (set words a (read .word)) (end + 1) (a + 1)
+      pub filling-next : {read : Written} → read ≡ lineRead rules a (record { bytes = take (end - at) (drop at text); ended = true })
+          → Filling rules text from before (set words a (read .word)) (end + 1) (a + 1)
       filling-next {read = read} e =
-          let w : read .word ≡ wordIn row = ap (λ (x : Written). x .word) e ∙ ap (λ (r : Row). lineRead a r .word) whole ∙ good-word (length before) a row (both .0) in
+          let w : read .word ≡ wordIn rules row = ap (λ (x : Written). x .word) e ∙ ap (λ (r : Row). lineRead rules a r .word) whole ∙ good-word rules (length before) a row (both .0) in
           record {
             good = both .1;
             few = omega (arith, filling-room);
-            done = g .done ++ (wordIn row ∷ []);
-            size = length-append (g .done) (wordIn row ∷ []) ∙ ap (λ (i : ℕ). i + 1) (g .size);
+            done = g .done ++ (wordIn rules row ∷ []);
+            size = length-append (g .done) (wordIn rules row ∷ []) ∙ ap (λ (i : ℕ). i + 1) (g .size);
             all =
                 g .all
-                ∙ ap (λ (l : List Row). g .done ++ map wordIn l) (rows-next text at f h)
-                ∙ sym (append-assoc (g .done) (wordIn row ∷ []) (map wordIn rows));
+                ∙ ap (λ (l : List Row). g .done ++ map (wordIn rules) l) (rows-next text at f h)
+                ∙ sym (append-assoc (g .done) (wordIn rules row ∷ []) (map (wordIn rules) rows));
             wrote =
                 ap₂ (λ (t : List ℕ) (i : ℕ). set t i (read .word)) (g .wrote) (place (length (g .done)) a (g .size))
                 ∙ put-more before (g .done) 0 (read .word) (omega (arith, filling-room, g .size))
@@ -243,7 +244,7 @@ module _ (text : List ℕ) (from : ℕ) (before : List ℕ) where
 
 -- ---- a text
 
-module _ (text before : List ℕ) {from : ℕ} (e : from ≡ pick (isHeaded text) (length headerText) 0) where
+module _ (rules : Rules) (text before : List ℕ) {from : ℕ} (e : from ≡ pick (isHeaded text) (length headerText) 0) where
   headed : (from ≡ 0 → ⊥) → (isHeaded text ≡ true) × (from ≡ length headerText)
   headed h = by (isHeaded text) refl e
     where
@@ -251,33 +252,33 @@ module _ (text before : List ℕ) {from : ℕ} (e : from ≡ pick (isHeaded text
       by true f g = (f, g)
       by false f g = absurd (h g)
 
-  pub not-headed : from ≡ 0 → ReadsBack text before before (refusedAt 60 1)
+  pub not-headed : from ≡ 0 → ReadsBack rules text before before (refusedAt 60 1)
   unfolding readBack
   not-headed h = by (isHeaded text) refl e
     where
-      by : (t : Bool) → isHeaded text ≡ t → from ≡ pick t (length headerText) 0 → ReadsBack text before before (refusedAt 60 1)
+      by : (t : Bool) → isHeaded text ≡ t → from ≡ pick t (length headerText) 0 → ReadsBack rules text before before (refusedAt 60 1)
       by true f g = absurd (omega (arith, h, g, header-size))
-      by false f g = record { answer = sym (ap (λ (t : Bool). pick t (toldOf (length before) 0 (bodyRows text)) (refusedAt 60 1)) f); words = refl }
+      by false f g = record { answer = sym (ap (λ (t : Bool). pick t (toldOf rules (length before) 0 (bodyRows text)) (refusedAt 60 1)) f); words = refl }
 
-  module _ (h : from ≡ 0 → ⊥) {told : ReadBack} (t : told ≡ toldOf (length before) 0 (rowsIn (drop from text))) where
+  module _ (h : from ≡ 0 → ⊥) {told : ReadBack} (t : told ≡ toldOf rules (length before) 0 (rowsIn (drop from text))) where
     rest : rowsIn (drop from text) ≡ bodyRows text
     rest = ap (λ (n : ℕ). rowsIn (drop n text)) (headed h .1)
 
-    answer : told ≡ readBack (length before) text
+    answer : told ≡ readBack rules (length before) text
     unfolding readBack
     answer =
-        t ∙ ap (toldOf (length before) 0) rest
-        ∙ sym (ap (λ (s : Bool). pick s (toldOf (length before) 0 (bodyRows text)) (refusedAt 60 1)) (headed h .0))
+        t ∙ ap (toldOf rules (length before) 0) rest
+        ∙ sym (ap (λ (s : Bool). pick s (toldOf rules (length before) 0 (bodyRows text)) (refusedAt 60 1)) (headed h .0))
 
-    pub reads-refused : (told .number ≡ 0 → ⊥) → ReadsBack text before before told
-    reads-refused n = record { answer = answer; words = sym (ap (λ (s : Bool). pick s (wordsIn text ++ drop (length (wordsIn text)) before) before) (ne-eqb (told .number) 0 n)) }
+    pub reads-refused : (told .number ≡ 0 → ⊥) → ReadsBack rules text before before told
+    reads-refused n = record { answer = answer; words = sym (ap (λ (s : Bool). pick s (wordsIn rules text ++ drop (length (wordsIn rules text)) before) before) (ne-eqb (told .number) 0 n)) }
 
-    pub reads-whole : told .number ≡ 0 → {after : List ℕ} → after ≡ put before 0 (map wordIn (rowsIn (drop from text))) → ReadsBack text before after told
+    pub reads-whole : told .number ≡ 0 → {after : List ℕ} → after ≡ put before 0 (map (wordIn rules) (rowsIn (drop from text))) → ReadsBack rules text before after told
     reads-whole n w =
         record {
           answer = answer;
           words =
-              w ∙ ap (λ (l : List Row). put before 0 (map wordIn l)) rest
-              ∙ put-front before (wordsIn text)
-              ∙ sym (ap (λ (s : Bool). pick s (wordsIn text ++ drop (length (wordsIn text)) before) before) (eq-eqb (told .number) 0 n));
+              w ∙ ap (λ (l : List Row). put before 0 (map (wordIn rules) l)) rest
+              ∙ put-front before (wordsIn rules text)
+              ∙ sym (ap (λ (s : Bool). pick s (wordsIn rules text ++ drop (length (wordsIn rules text)) before) before) (eq-eqb (told .number) 0 n));
         }

@@ -10,6 +10,7 @@ use Rattle.instruction.specs.Bits.{pick, _gives_else_}
 use Rattle.instruction.specs.Form.{filled}
 use Rattle.instruction.specs.Table.{bodyOf}
 use Rattle.instruction.specs.declared.Instruction.{Instruction}
+use Rattle.instruction.specs.declared.Rules.{Rules}
 use Rattle.buffer.specs.Put.{put}
 use Rattle.text.specs.Cut.{Row, rowsIn, fieldsIn, sameText}
 use Rattle.text.specs.Number.{value, isNumber}
@@ -59,24 +60,24 @@ isShaped ended fs =
     ended && (isNumber (addressIn fs) && (leb 2 (length fs) && (not (isKnown fs) || hasFields (rowNamed (nameIn fs)) (numbersIn fs))))
 
 -- "61 .., 62 address not counting up from 0, 63 unknown name or `BAD`, then the writer's own numbers"
-abbrev pub fieldsRead : ℕ → Bool → List (List ℕ) → Written
-fieldsRead a ended fs =
+abbrev pub fieldsRead : Rules → ℕ → Bool → List (List ℕ) → Written
+fieldsRead rules a ended fs =
     pick (not (isShaped ended fs)) (notWritten 61)
     (pick (not (eqb (value (addressIn fs)) a)) (notWritten 62)
     (pick (not (isKnown fs)) (notWritten 63)
-    (writtenOf (wishIn fs))))
+    (writtenOf rules (wishIn fs))))
 
 -- a line that counts as the one of address a
-unfoldable pub lineRead : ℕ → Row → Written
-lineRead a row = fieldsRead a (row .ended) (fieldsIn row)
+unfoldable pub lineRead : Rules → ℕ → Row → Written
+lineRead rules a row = fieldsRead rules a (row .ended) (fieldsIn row)
 
 -- "64 no room"; "on a line in this order"
-unfoldable pub lineNumber : ℕ → ℕ → Row → ℕ
-lineNumber room a row = filled (lineRead a row .number) gives lineRead a row .number else leb room a gives 64 else 0
+unfoldable pub lineNumber : Rules → ℕ → ℕ → Row → ℕ
+lineNumber rules room a row = filled (lineRead rules a row .number) gives lineRead rules a row .number else leb room a gives 64 else 0
 
 -- the word of a line with which nothing is wrong
-unfoldable pub wordIn : Row → ℕ
-wordIn row = writtenOf (wishIn (fieldsIn row)) .word
+unfoldable pub wordIn : Rules → Row → ℕ
+wordIn rules row = writtenOf rules (wishIn (fieldsIn row)) .word
 
 -- ---- a text
 
@@ -85,9 +86,9 @@ abbrev pub refusedAt : ℕ → ℕ → ReadBack
 refusedAt number line = record { number = number; line = line; count = 0 }
 
 -- "the first bad line wins": lines from an address on
-unfoldable pub toldOf : ℕ → ℕ → List Row → ReadBack
-toldOf room a [] = record { number = 0; line = 0; count = a }
-toldOf room a (row ∷ rows) = pick (eqb (lineNumber room a row) 0) (toldOf room (a + 1) rows) (refusedAt (lineNumber room a row) (a + 2))
+unfoldable pub toldOf : Rules → ℕ → ℕ → List Row → ReadBack
+toldOf rules room a [] = record { number = 0; line = 0; count = a }
+toldOf rules room a (row ∷ rows) = pick (eqb (lineNumber rules room a row) 0) (toldOf rules room (a + 1) rows) (refusedAt (lineNumber rules room a row) (a + 2))
 
 -- "60 header, its line feed included"
 abbrev pub isHeaded : List ℕ → Bool
@@ -98,16 +99,16 @@ abbrev pub bodyRows : List ℕ → List Row
 bodyRows text = rowsIn (drop (length headerText) text)
 
 -- 60 is told of line 1, and else what the lines tell
-unfoldable pub readBack : ℕ → List ℕ → ReadBack
-readBack room text = pick (isHeaded text) (toldOf room 0 (bodyRows text)) (refusedAt 60 1)
+unfoldable pub readBack : Rules → ℕ → List ℕ → ReadBack
+readBack rules room text = pick (isHeaded text) (toldOf rules room 0 (bodyRows text)) (refusedAt 60 1)
 
-abbrev pub wordsIn : List ℕ → List ℕ
-wordsIn text = map wordIn (bodyRows text)
+abbrev pub wordsIn : Rules → List ℕ → List ℕ
+wordsIn rules text = map (wordIn rules) (bodyRows text)
 
 -- what `read_listing` answers, and what it leaves in the buffer: "The words go to a lent buffer, untouched after a refusal."
-pub record ReadsBack (text before after : List ℕ) (r : ReadBack) : Type 0 where
-  pub answer : r ≡ readBack (length before) text
-  pub words : after ≡ pick (eqb (r .number) 0) (wordsIn text ++ drop (length (wordsIn text)) before) before
+pub record ReadsBack (rules : Rules) (text before after : List ℕ) (r : ReadBack) : Type 0 where
+  pub answer : r ≡ readBack rules (length before) text
+  pub words : after ≡ pick (eqb (r .number) 0) (wordsIn rules text ++ drop (length (wordsIn rules text)) before) before
 
 -- ---- what the functions tell
 
@@ -116,11 +117,11 @@ abbrev pub fieldCount : ℕ → ℕ
 fieldCount row = length (entriesOf (instructionOf row [])) - 1
 
 -- a line with a known name and these fields behind it
-abbrev pub knownRead : ℕ → ℕ → ℕ → List (List ℕ) → Written
-knownRead row address a fs =
+abbrev pub knownRead : Rules → ℕ → ℕ → ℕ → List (List ℕ) → Written
+knownRead rules row address a fs =
     pick (not (hasFields row fs)) (notWritten 61)
     (pick (not (eqb address a)) (notWritten 62)
-    (writtenOf (instructionOf row (map value fs))))
+    (writtenOf rules (instructionOf row (map value fs))))
 
 -- so many fields and no more, each a number: told, and then laid from the front
 pub record NumbersRead (count : ℕ) (fs : List (List ℕ)) (before after : List ℕ) (r : Bool) : Type 0 where

@@ -10,6 +10,7 @@ ghost use Rattle.text.specs.Cut.{lineFeed, placeOf, rowAt, rowsIn};
 ghost use Rattle.listing.specs.Listing.{headerText};
 ghost use Rattle.listing_reader.specs.ReadBack.{isHeaded, lineNumber, toldOf, wordIn, ReadsBack};
 use crate::line::read_line;
+use instruction::Rules;
 use listing::Listing;
 use listing::put_header;
 use text::find;
@@ -58,14 +59,14 @@ fn header_end(text: &[u8]) -> usize
 }
 
 // What is wrong with the line from a place to its end, if anything.
-fn line_number(text: &[u8], at: usize, end: usize, a: u64, room: u64) -> u64
+fn line_number(text: &[u8], at: usize, end: usize, a: u64, room: u64, rules: Rules) -> u64
     requires { ⌜ (at < length (now text)) × (end ≡ placeOf lineFeed at (now text)) ⌝ }
-    ensures { λ r. ⌜ r ≡ lineNumber room a (rowAt (now (text .entry)) at end) ⌝ }
+    ensures { λ r. ⌜ r ≡ lineNumber rules room a (rowAt (now (text .entry)) at end) ⌝ }
 {
     if text.len() <= end {
         return ReadBack::NO_LINE;
     }
-    let read = read_line(&text[at..end], a);
+    let read = read_line(&text[at..end], a, rules);
     if read.number != 0 {
         return read.number;
     }
@@ -76,9 +77,9 @@ fn line_number(text: &[u8], at: usize, end: usize, a: u64, room: u64) -> u64
 }
 
 // The first bad line from a place on, or how many words there are.
-fn judge(text: &[u8], from: usize, room: usize) -> ReadBack
+fn judge(text: &[u8], from: usize, room: usize, rules: Rules) -> ReadBack
     requires { ⌜ 0 < from ⌝ }
-    ensures { λ r. ⌜ r ≡ toldOf room 0 (rowsIn (drop from (now (text .entry)))) ⌝ }
+    ensures { λ r. ⌜ r ≡ toldOf rules room 0 (rowsIn (drop from (now (text .entry)))) ⌝ }
 {
     let size = text.len();
     let mut at = from;
@@ -86,7 +87,7 @@ fn judge(text: &[u8], from: usize, room: usize) -> ReadBack
     while at < size {
         let end = find(text, at, b'\n');
         let next = end + 1;
-        let number = line_number(text, at, end, a as u64, room as u64);
+        let number = line_number(text, at, end, a as u64, room as u64, rules);
         if number != 0 {
             let line = a as u64 + ReadBack::FIRST_LINE;
             return ReadBack {
@@ -106,15 +107,15 @@ fn judge(text: &[u8], from: usize, room: usize) -> ReadBack
 }
 
 // The words of lines that are all good, from the front.
-fn fill(text: &[u8], from: usize, words: &mut [u64])
-    requires { ⌜ toldOf (length (now words)) 0 (rowsIn (drop from (now text))) .number ≡ 0 ⌝ }
-    ensures { λ _. ⌜ now (words .exit) ≡ put (now (words .entry)) 0 (map wordIn (rowsIn (drop from (now (text .entry))))) ⌝ }
+fn fill(text: &[u8], from: usize, words: &mut [u64], rules: Rules)
+    requires { ⌜ toldOf rules (length (now words)) 0 (rowsIn (drop from (now text))) .number ≡ 0 ⌝ }
+    ensures { λ _. ⌜ now (words .exit) ≡ put (now (words .entry)) 0 (map (wordIn rules) (rowsIn (drop from (now (text .entry))))) ⌝ }
 {
     let mut at = from;
     let mut a: usize = 0;
     while at < text.len() {
         let end = find(text, at, b'\n');
-        let read = read_line(&text[at..end], a as u64);
+        let read = read_line(&text[at..end], a as u64, rules);
         words[a] = read.word;
         at = end + 1;
         a += 1;
@@ -122,8 +123,8 @@ fn fill(text: &[u8], from: usize, words: &mut [u64])
 }
 
 // A listing as words: all of them from the front of the buffer, or a refusal and the buffer as it was.
-pub fn read_listing(text: &[u8], words: &mut [u64]) -> ReadBack
-    ensures { λ r. ⌜ ReadsBack (now (text .entry)) (now (words .entry)) (now (words .exit)) r ⌝ }
+pub fn read_listing(text: &[u8], rules: Rules, words: &mut [u64]) -> ReadBack
+    ensures { λ r. ⌜ ReadsBack rules (now (text .entry)) (now (words .entry)) (now (words .exit)) r ⌝ }
 {
     let from = header_end(text);
     if from == 0 {
@@ -133,9 +134,9 @@ pub fn read_listing(text: &[u8], words: &mut [u64]) -> ReadBack
             count: 0,
         };
     }
-    let told = judge(text, from, words.len());
+    let told = judge(text, from, words.len(), rules);
     if told.number == 0 {
-        fill(text, from, words);
+        fill(text, from, words, rules);
     }
     told
 }

@@ -13,6 +13,7 @@ ghost use Rattle.listing_reader.specs.ReadBack.{fieldCount, knownRead, l
 use crate::ReadBack;
 use instruction::Body;
 use instruction::Instruction;
+use instruction::Rules;
 use laid::fields::body_of;
 use names::Names;
 use names::named;
@@ -72,9 +73,9 @@ fn refused(number: u64) -> Written
 }
 
 // A line whose name is known, from the end of the name on.
-fn read_known(line: &[u8], from: usize, row: u64, address: u64, a: u64) -> Written
+fn read_known(line: &[u8], from: usize, row: u64, address: u64, a: u64, rules: Rules) -> Written
     requires { ⌜ (from ≤ length (now line)) × (row < nameCount) ⌝ }
-    ensures { λ r. ⌜ r ≡ knownRead row address a (fieldsAfter from (now (line .entry))) ⌝ }
+    ensures { λ r. ⌜ r ≡ knownRead rules row address a (fieldsAfter from (now (line .entry))) ⌝ }
 {
     let mut values = [0u64; ReadBack::FIELDS];
     if !read_numbers(line, from, field_count(row), &mut values) {
@@ -84,11 +85,12 @@ fn read_known(line: &[u8], from: usize, row: u64, address: u64, a: u64) -> Writt
         return refused(ReadBack::WRONG_ADDRESS);
     }
     let body = body_of(row, values[2], values[3], values[4], values[5]);
-    write(Instruction {
+    let i = Instruction {
         engine: values[0],
         write: values[1],
         body,
-    })
+    };
+    write(i, rules)
 }
 
 // A line whose name is not known.
@@ -102,8 +104,8 @@ fn read_unknown(address: u64, a: u64) -> Written
 }
 
 // The line of the word at address a.
-pub fn read_line(line: &[u8], a: u64) -> Written
-    ensures { λ r. ⌜ r ≡ lineRead a (record { bytes = now (line .entry); ended = true }) ⌝ }
+pub fn read_line(line: &[u8], a: u64, rules: Rules) -> Written
+    ensures { λ r. ⌜ r ≡ lineRead rules a (record { bytes = now (line .entry); ended = true }) ⌝ }
 {
     let address = number_from(line, 0);
     if !address.plain {
@@ -116,7 +118,7 @@ pub fn read_line(line: &[u8], a: u64) -> Written
     let end = find(line, from, b'\t');
     let row = named(&line[from..end]);
     if row < Names::COUNT {
-        return read_known(line, end, row, address.value, a);
+        return read_known(line, end, row, address.value, a, rules);
     }
     read_unknown(address.value, a)
 }

@@ -204,7 +204,7 @@ pub kept : (e : Fixed) (s : State) → Good e s → Kept e s (stepOf e s)
 unfolding stepOf
 kept e s g =
     picks (Kept e s) (ltb (s .core .address .0) (length (e .words)))
-    (λ t. reads e s g (ltb-true (s .core .address .0) (length (e .words)) t) (readingOf (getD (e .words) (s .core .address .0) 0)))
+    (λ t. reads e s g (ltb-true (s .core .address .0) (length (e .words)) t) (readingOf (e .setting .rules) (getD (e .words) (s .core .address .0) 0)))
     (λ _. stays e s g (numbered 30))
 
 -- ---- the fresh state is good

@@ -234,11 +234,11 @@ unfolding stepOf
 step-past e s h = rw (le-ltb (s .core .address .0) (length (e .words)) h)
 
 pub step-refused : (e : Fixed) (s : State) (r : Refusal) → s .core .address .0 < length (e .words)
-    → readingOf (getD (e .words) (s .core .address .0) 0) ≡ Refused r → stepOf e s ≡ refusedBy r s
+    → readingOf (e .setting .rules) (getD (e .words) (s .core .address .0) 0) ≡ Refused r → stepOf e s ≡ refusedBy r s
 unfolding stepOf withReading
 step-refused e s r h q = rw (lt-ltb (s .core .address .0) (length (e .words)) h, q)
 
 pub step-accepted : (e : Fixed) (s : State) (i : Instruction) → s .core .address .0 < length (e .words)
-    → readingOf (getD (e .words) (s .core .address .0) 0) ≡ Accepted i → stepOf e s ≡ executeOf e s i
+    → readingOf (e .setting .rules) (getD (e .words) (s .core .address .0) 0) ≡ Accepted i → stepOf e s ≡ executeOf e s i
 unfolding stepOf withReading
 step-accepted e s i h q = rw (lt-ltb (s .core .address .0) (length (e .words)) h, q)

@@ -90,5 +90,5 @@ withReading e s (Refused r) = refusedBy r s
 unfoldable pub stepOf : Fixed → State → Did
 stepOf e s =
     pick (ltb (s .core .address .0) (length (e .words)))
-    (withReading e s (readingOf (getD (e .words) (s .core .address .0) 0)))
+    (withReading e s (readingOf (e .setting .rules) (getD (e .words) (s .core .address .0) 0)))
     (stop 30 s)

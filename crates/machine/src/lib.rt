@@ -233,7 +233,7 @@ pub fn step(
         return Stepped::stop(Sequence::PAST_THE_END, s);
     }
     let word = words[at];
-    let reading = Reading::of(word, coarse_of(word), instruction_in(word));
+    let reading = Reading::of(word, coarse_of(word, setting.rules), instruction_in(word));
     let Reading::Accepted(i) = reading else {
         let end = reading.refusal();
         return Stepped { end, core: s };

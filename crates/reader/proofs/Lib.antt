@@ -3,3 +3,4 @@ pub mod Masks
 pub mod Strays
 pub mod Laws
 pub mod Coarse
+pub mod Alike

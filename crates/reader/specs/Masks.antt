@@ -5,11 +5,12 @@ use mathlib.Core.Bool.{Bool}
 use mathlib.Core.List.{List, [], _∷_}
 use lib.Dec.{eqb}
 use Rattle.instruction.specs.Bits.{pick, _gives_else_}
-use Rattle.instruction.specs.Table.{wordBits, codeOf, lastCode, noopWord, waveformOf}
+use Rattle.instruction.specs.Table.{wordBits, codeOf, lastCode, noopWord, waveformOf, markerOf, modulatorOf}
 use Rattle.instruction.specs.Form.{numbered, formOf}
 use Rattle.instruction.specs.Word.{codeIn, spelledBy}
-use Rattle.instruction.specs.declared.Body.the-variants.{Waveform, LoadRepeat, Return}
+use Rattle.instruction.specs.declared.Body.the-variants.{Waveform, Marker, LoadRepeat, Return, Modulator}
 use Rattle.instruction.specs.declared.Refusal.{Refusal}
+use Rattle.instruction.specs.declared.Rules.{Rules}
 use Rattle.instruction.specs.declared.Instruction.{Instruction}
 use Rattle.reader.specs.Reading.{someBelow, isStray, noSuchCode, kindOf, notItsOp, highestStray}
 use Rattle.reader.specs.declared.Reading.{Reading}
@@ -44,16 +45,16 @@ abbrev pub coarseUnnamed : ℕ
 coarseUnnamed = 111
 
 -- what every word is judged by: as `formIn`, with that one number
-unfoldable pub coarseIn : ℕ → ℕ
-coarseIn word =
+unfoldable pub coarseIn : Rules → ℕ → ℕ
+coarseIn rules word =
     noSuchCode word gives 10
     else hasUnnamed word gives coarseUnnamed
     else notItsOp word gives 12
-    else formOf (spelledBy word)
+    else formOf rules (spelledBy word)
 
 -- H2
-abbrev pub coarseOf : ℕ → ℕ
-coarseOf word = pick (eqb word noopWord) 0 (coarseIn word)
+abbrev pub coarseOf : Rules → ℕ → ℕ
+coarseOf rules word = pick (eqb word noopWord) 0 (coarseIn rules word)
 
 -- the refusal that it stands for: only there the bit is looked for
 abbrev pub finer : ℕ → ℕ → Refusal
@@ -66,6 +67,14 @@ judgedBy word coarse i = pick (eqb coarse 0) (Accepted i) (Refused (finer word c
 -- what a function knows of a word's op code that judges by it: WAVEFORM
 abbrev pub IsWaveform : ℕ → Type 0
 IsWaveform word = codeIn word ≡ codeOf (Waveform (waveformOf []))
+
+-- MARKER
+abbrev pub IsMarker : ℕ → Type 0
+IsMarker word = codeIn word ≡ codeOf (Marker (markerOf []))
+
+-- MODULATOR
+abbrev pub IsModulator : ℕ → Type 0
+IsModulator word = codeIn word ≡ codeOf (Modulator (modulatorOf []))
 
 -- LOAD_REPEAT to RETURN
 abbrev pub IsFlow : ℕ → Type 0

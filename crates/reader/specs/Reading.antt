@@ -1,5 +1,5 @@
--- What a word reads as: one instruction, or a form number. Document 01, "The word" and "Numbers given back"; document 02, CR 2.
--- What only a word can have wrong is judged here (10, 111 to 113, 12); 13 to 19 are the instruction's.
+-- What a word reads as: one instruction, or a form number. Document 01, "The word" and "Numbers given back"; document 02, CR 2 and 3.
+-- What only a word can have wrong is judged here (10, 111 to 113, 12); 13 to 19 and 24 are the instruction's.
 use Prim.Native.Nat.{ℕ, zero, suc, _+_}
 use mathlib.Core.Bool.{Bool, true, false, not, _||_, _&&_}
 use mathlib.Core.List.{List, [], _∷_}
@@ -11,6 +11,7 @@ use Rattle.instruction.specs.Word.{codeIn, spelledBy, noop}
 use Rattle.instruction.specs.declared.Field.{Field}
 use Rattle.instruction.specs.declared.Instruction.{Instruction}
 use Rattle.instruction.specs.declared.Refusal.{Refusal}
+use Rattle.instruction.specs.declared.Rules.{Rules}
 use Rattle.instruction.specs.declared.Body.the-variants.{Wait, Sync}
 use Rattle.reader.specs.declared.Reading.{Reading}
 use Rattle.reader.specs.declared.Reading.the-variants.{Accepted, Refused}
@@ -60,14 +61,14 @@ notItsOp word =
     || (eqb (codeIn word) (codeOf Sync) && not (eqb (held word engineOp) syncOp))
 
 -- "Form, from the word alone, lowest number wins", 111 to 113 "in that order and at 11's place"; 0 where none is given
-unfoldable pub formIn : ℕ → ℕ
-formIn word =
+unfoldable pub formIn : Rules → ℕ → ℕ
+formIn rules word =
     noSuchCode word gives 10
     else hasKind 111 word gives 111
     else hasKind 112 word gives 112
     else hasKind 113 word gives 113
     else notItsOp word gives 12
-    else formOf (spelledBy word)
+    else formOf rules (spelledBy word)
 
 -- the highest number below n that passes a test; 0 where none does
 abbrev pub highestBelow : ℕ → (ℕ → Bool) → ℕ
@@ -91,8 +92,8 @@ abbrev pub judged : Refusal → Instruction → Reading
 judged refusal i = pick (eqb (refusal .number) 0) (Accepted i) (Refused refusal)
 
 -- H2: NOOP is "tested before all else"
-unfoldable pub readingOf : ℕ → Reading
-readingOf word = pick (eqb word noopWord) (Accepted noop) (judged (refusedWith word (formIn word)) (spelledBy word))
+unfoldable pub readingOf : Rules → ℕ → Reading
+readingOf rules word = pick (eqb word noopWord) (Accepted noop) (judged (refusedWith word (formIn rules word)) (spelledBy word))
 
 -- the refusal of a reading; number 0 is accepted
 abbrev pub refusalOf : Reading → Refusal

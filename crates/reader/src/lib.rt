@@ -7,8 +7,9 @@ ghost use Rattle.instruction.specs.Bits.{held};
 ghost use Rattle.instruction.specs.Table.{wordBits, engineSelect, writeFlag};
 ghost use Rattle.instruction.specs.Form.{numbered};
 ghost use Rattle.instruction.specs.Word.{spelledBy};
+ghost use Rattle.instruction.specs.declared.Rules.{Rules};
 ghost use lib.ListN.{getD};
-ghost use Rattle.reader.specs.Masks.{namedBits, hasUnnamed, coarseIn, coarseOf, finer, judgedBy, IsWaveform, IsFlow, IsCode};
+ghost use Rattle.reader.specs.Masks.{namedBits, hasUnnamed, coarseIn, coarseOf, finer, judgedBy, IsWaveform, IsMarker, IsModulator, IsFlow, IsCode};
 ghost use Rattle.reader.specs.Reading.{refusalOf, kindOf, highestStray, notItsOp, formIn, refusedWith, instructionIn, judged, readingOf};
 use instruction::Body;
 use instruction::Comparison;
@@ -20,6 +21,7 @@ use instruction::ModulatorFields;
 use instruction::QuadSamples;
 use instruction::Refusal;
 use instruction::Repeats;
+use instruction::Rules;
 use instruction::WaveformFields;
 use instruction::WordAddress;
 
@@ -138,11 +140,42 @@ fn kind_of(code: u64, bit: u64) -> u64
     Refusal::BIT_IN_GAP
 }
 
-// The coarse number of a word that is not NOOP, the lowest first, or 0.
-fn form_in(word: u64) -> u64
-    ensures { λ r. ⌜ r ≡ coarseIn word ⌝ }
+// The coarse number of a MARKER.
+fn marker_form(word: u64, rules: Rules) -> u64
+    requires { ⌜ IsMarker word ⌝ }
+    ensures { λ r. ⌜ r ≡ coarseIn rules word ⌝ }
 {
-    if Body::PREFETCH < Instruction::code_in(word) {
+    if has_unnamed(word) {
+        Reading::UNNAMED
+    } else {
+        MarkerFields::spelled_by(word).form(rules)
+    }
+}
+
+// The coarse number of a MODULATOR.
+fn modulator_form(word: u64) -> u64
+    requires { ⌜ IsModulator word ⌝ }
+    ensures { λ r. ⌜ ((rules : Rules) → r ≡ coarseIn rules word) ⌝ }
+{
+    if has_unnamed(word) {
+        Reading::UNNAMED
+    } else {
+        ModulatorFields::spelled_by(word).form()
+    }
+}
+
+// The coarse number of a word that is not NOOP, the first that is given, or 0; engine words first, which are met more than others.
+fn form_in(word: u64, rules: Rules) -> u64
+    ensures { λ r. ⌜ r ≡ coarseIn rules word ⌝ }
+{
+    let code = Instruction::code_in(word);
+    if code == Body::MARKER {
+        return marker_form(word, rules);
+    }
+    if code == Body::MODULATOR {
+        return modulator_form(word);
+    }
+    if Body::PREFETCH < code {
         return Refusal::NO_SUCH_CODE;
     }
     if has_unnamed(word) {
@@ -151,33 +184,33 @@ fn form_in(word: u64) -> u64
     if not_its_op(word) {
         return Refusal::NOT_ITS_OP;
     }
-    Instruction::form_in(word)
+    Instruction::form_in(word, rules)
 }
 
-// A play with nothing wrong, which most words are.
+// A play with nothing wrong.
 fn plays_well(word: u64) -> bool
     requires { ⌜ IsWaveform word ⌝ }
-    ensures { λ r. ⌜ (r ≡ true → formIn word ≡ 0) ⌝ }
+    ensures { λ r. ⌜ ((rules : Rules) → r ≡ true → formIn rules word ≡ 0) ⌝ }
 {
     let f = WaveformFields::spelled_by(word);
     !has_unnamed(word) & (f.op == EngineOp::PLAY) & (QuadSamples::SHORTEST <= f.count.0)
 }
 
 // The coarse number of a WAVEFORM.
-fn waveform_form(word: u64) -> u64
+fn waveform_form(word: u64, rules: Rules) -> u64
     requires { ⌜ IsWaveform word ⌝ }
-    ensures { λ r. ⌜ r ≡ coarseIn word ⌝ }
+    ensures { λ r. ⌜ r ≡ coarseIn rules word ⌝ }
 {
     if plays_well(word) {
         return 0;
     }
-    form_in(word)
+    form_in(word, rules)
 }
 
 // The coarse number of LOAD_REPEAT to RETURN: nothing but a bit that is not named can be wrong.
 fn flow_form(word: u64) -> u64
     requires { ⌜ IsFlow word ⌝ }
-    ensures { λ r. ⌜ r ≡ coarseIn word ⌝ }
+    ensures { λ r. ⌜ ((rules : Rules) → r ≡ coarseIn rules word) ⌝ }
 {
     if has_unnamed(word) {
         Reading::UNNAMED
@@ -186,26 +219,26 @@ fn flow_form(word: u64) -> u64
     }
 }
 
-// The coarse number of a word that is not NOOP; the words that are met most come first.
-fn form_of(word: u64) -> u64
-    ensures { λ r. ⌜ r ≡ coarseIn word ⌝ }
+// The coarse number of a word that is not NOOP; the words that are met most are judged at once, and the others by a call.
+fn form_of(word: u64, rules: Rules) -> u64
+    ensures { λ r. ⌜ r ≡ coarseIn rules word ⌝ }
 {
     let code = Instruction::code_in(word);
     if code == Body::WAVEFORM {
-        return waveform_form(word);
+        return waveform_form(word, rules);
     }
     if (Body::LOAD_REPEAT <= code) & (code <= Body::RETURN) {
         return flow_form(word);
     }
-    form_in(word)
+    form_in(word, rules)
 }
 
-// The coarse number of a word, 0 where it is accepted: one for every bit that is not named, so that a good word pays nothing for the finer answer.
-pub fn coarse_of(word: u64) -> u64
-    ensures { λ r. ⌜ r ≡ coarseOf word ⌝ }
+// The coarse number of a word, 0 where it is accepted: one for every bit that is not named, so that only a bad word is looked through for its bit.
+pub fn coarse_of(word: u64, rules: Rules) -> u64
+    ensures { λ r. ⌜ r ≡ coarseOf rules word ⌝ }
 {
     if word != Instruction::NOOP {
-        return form_of(word);
+        return form_of(word, rules);
     }
     0
 }
@@ -256,9 +289,9 @@ fn judge(number: u64, word: u64, body: Body) -> Reading
 }
 
 // A word whose bits are named, by its op code.
-fn read_named(word: u64) -> Reading
+fn read_named(word: u64, rules: Rules) -> Reading
     requires { ⌜ IsCode word × (hasUnnamed word ≡ false) ⌝ }
-    ensures { λ r. ⌜ r ≡ judged (refusedWith word (formIn word)) (spelledBy word) ⌝ }
+    ensures { λ r. ⌜ r ≡ judged (refusedWith word (formIn rules word)) (spelledBy word) ⌝ }
 {
     match Instruction::code_in(word) {
         Body::WAVEFORM => {
@@ -267,23 +300,23 @@ fn read_named(word: u64) -> Reading
         }
         Body::MARKER => {
             let f = MarkerFields::spelled_by(word);
-            judge(f.form(), word, Body::Marker(f))
+            judge(f.form(rules), word, Body::Marker(f))
         }
-        Body::WAIT => judge(form_in(word), word, Body::Wait),
+        Body::WAIT => judge(form_in(word, rules), word, Body::Wait),
         Body::LOAD_REPEAT => judge(0, word, Body::LoadRepeat(Repeats::spelled_by(word))),
         Body::REPEAT => judge(0, word, Body::Repeat(WordAddress::spelled_by(word))),
         Body::CMP => judge(0, word, Body::Cmp(Comparison::spelled_by(word))),
         Body::GOTO => judge(0, word, Body::Goto(WordAddress::spelled_by(word))),
         Body::CALL => judge(0, word, Body::Call(WordAddress::spelled_by(word))),
         Body::RETURN => judge(0, word, Body::Return(Ignored(0))),
-        Body::SYNC => judge(form_in(word), word, Body::Sync),
+        Body::SYNC => judge(form_in(word, rules), word, Body::Sync),
         Body::MODULATOR => {
             let f = ModulatorFields::spelled_by(word);
             judge(f.form(), word, Body::Modulator(f))
         }
         Body::LOAD_CMP => judge(0, word, Body::LoadCmp(Ignored(0))),
         _ => judge(
-            form_in(word),
+            form_in(word, rules),
             word,
             Body::Prefetch(WordAddress::spelled_by(word)),
         ),
@@ -291,8 +324,8 @@ fn read_named(word: u64) -> Reading
 }
 
 // What a word reads as. A caller that reads many kinds of words in one place puts the reading together instead (`Reading::of`).
-pub fn read(word: u64) -> Reading
-    ensures { λ r. ⌜ r ≡ readingOf word ⌝ }
+pub fn read(word: u64, rules: Rules) -> Reading
+    ensures { λ r. ⌜ r ≡ readingOf rules word ⌝ }
 {
     if word == Instruction::NOOP {
         return Reading::Accepted(Instruction {
@@ -310,5 +343,5 @@ pub fn read(word: u64) -> Reading
     if has_unnamed(word) {
         return Reading::Refused(finer(word, Reading::UNNAMED));
     }
-    read_named(word)
+    read_named(word, rules)
 }

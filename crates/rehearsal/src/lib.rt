@@ -1,4 +1,4 @@
-// The rehearsal: a run without a module, for every list of words, waveform length, messages, triggers, trace and budget.
+// The rehearsal: a run without a module, for every list of words, waveform length, firmware, messages, triggers, trace and budget.
 // It takes exactly the steps that the instruction set gives.
 ghost use mathlib.Core.Path.{_≡_};
 ghost use Rattle.instruction.specs.Form.{numbered};
@@ -8,6 +8,7 @@ ghost use Rattle.rehearsal.specs.Run.{runOf, inputRefused, rehearse, Reh
 use dispatch::Engines;
 use instruction::QuadSamples;
 use instruction::Refusal;
+use instruction::Rules;
 use jumps::Core;
 use jumps::Setting;
 use jumps::State;
@@ -145,12 +146,13 @@ fn from_fresh(
 pub fn run(
     words: &[u64],
     wave: QuadSamples,
+    rules: Rules,
     messages: &[u8],
     triggers: u32,
     trace: &mut [u64],
     budget: u64,
 ) -> Answer
-    ensures { λ r. ⌜ Rehearsed (rehearse budget (fixedIn (words .entry) (messages .entry) (trace .entry) (record { wave = wave; triggers = triggers })))
+    ensures { λ r. ⌜ Rehearsed (rehearse budget (fixedIn (words .entry) (messages .entry) (trace .entry) (record { wave = wave; rules = rules; triggers = triggers })))
         (now (trace .entry)) (now (trace .exit)) r ⌝ }
 {
     let refused = input_refused(words.len() as u64, wave, budget);
@@ -159,6 +161,7 @@ pub fn run(
     }
     let setting = Setting {
         wave,
+        rules,
         triggers: triggers as u64,
     };
     from_fresh(words, messages, trace, budget, setting)

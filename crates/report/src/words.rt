@@ -1,6 +1,7 @@
 // Words as lines of the listing.
 // A place is told with the word that stands there, and a long trace is cut.
 use instruction::Refusal;
+use instruction::Rules;
 use instruction::WordAddress;
 use libc::STDOUT_FILENO;
 use listing::Listing;
@@ -12,34 +13,34 @@ use told::say_pair;
 // The words of a trace that are shown.
 const SHOWN: usize = 40;
 
-fn say_word(address: u64, word: u64) {
+fn say_word(address: u64, word: u64, rules: Rules) {
     let mut line = [0u8; Listing::LINE];
-    let n = listing::line(address, word, &mut line);
+    let n = listing::line(address, word, rules, &mut line);
     if n <= Listing::LINE {
         say(&line[..n]);
     }
 }
 
-fn say_words(words: &[u64]) {
+fn say_words(words: &[u64], rules: Rules) {
     let mut a: usize = 0;
     while a < words.len() {
-        say_word(a as u64, words[a]);
+        say_word(a as u64, words[a], rules);
         a += 1;
     }
 }
 
-// The listing of no words is its header.
+// The listing of no words is its header, whatever the rules.
 fn say_header() {
     let mut header = [0u8; Listing::LINE];
-    let n = listing::list(b"", &mut header);
+    let n = listing::list(b"", Rules::CURRENT, &mut header);
     if n <= Listing::LINE {
         say(&header[..n]);
     }
 }
 
-pub fn say_listing(words: &[u64]) {
+pub fn say_listing(words: &[u64], rules: Rules) {
     say_header();
-    say_words(words);
+    say_words(words, rules);
 }
 
 // The line of a listing that has the word at an address: the header is line 1.
@@ -58,12 +59,12 @@ fn say_line_of(address: u64, before: &[u8], listed: bool) {
 }
 
 // A word past the last is told with the last.
-fn say_past(words: &[u64], listed: bool) {
+fn say_past(words: &[u64], listed: bool, rules: Rules) {
     say(b", past the last, which is");
     if words.len() != 0 {
         let last = words.len() - 1;
         say_line_of(last as u64, b" ", listed);
-        say_word(last as u64, words[last]);
+        say_word(last as u64, words[last], rules);
     }
 }
 
@@ -76,7 +77,7 @@ pub fn say_bit(refusal: Refusal) {
 }
 
 // Where a refusal is, its bit, and the listing's line of the word there.
-pub fn say_place(words: &[u64], refusal: Refusal, place: WordAddress, listed: bool) {
+pub fn say_place(words: &[u64], refusal: Refusal, place: WordAddress, listed: bool, rules: Rules) {
     if words.len() == 0 {
         say(b"\n");
         return;
@@ -86,11 +87,11 @@ pub fn say_place(words: &[u64], refusal: Refusal, place: WordAddress, listed: bo
     say_bit(refusal);
     let at = place.0 as usize;
     if words.len() <= at {
-        say_past(words, listed);
+        say_past(words, listed, rules);
         return;
     }
     say_line_of(place.0, b", ", listed);
-    say_word(place.0, words[at]);
+    say_word(place.0, words[at], rules);
 }
 
 // A byte of a line as a person can see it: what is no printing ASCII goes by its number, but a tab.
@@ -130,12 +131,12 @@ fn say_rest(n: usize) {
 }
 
 // The trace as listing lines, cut with a count of the rest.
-pub fn say_trace(trace: &[u64]) {
+pub fn say_trace(trace: &[u64], rules: Rules) {
     say_pair(b"trace", trace.len() as u64);
     if trace.len() <= SHOWN {
-        say_words(trace);
+        say_words(trace, rules);
         return;
     }
-    say_words(&trace[..SHOWN]);
+    say_words(&trace[..SHOWN], rules);
     say_rest(trace.len() - SHOWN);
 }

@@ -1,6 +1,7 @@
 // What is asked: the command, its file and its options. What cannot be understood is said at once, in a sentence.
 ghost use Prim.Native.Nat.{_<_};
 use instruction::QuadSamples;
+use instruction::Rules;
 use sequence::Sequence;
 use text::same;
 use told::complaint::complain;
@@ -34,6 +35,8 @@ const JSON: u64 = 8;
 
 const OUT: u64 = 9;
 
+const FIRMWARE: u64 = 10;
+
 // An option that waits for its value is `pending`. A file is told by its place among the arguments; 0 is none. Of several, `file`
 // is the first.
 pub struct Asked {
@@ -48,6 +51,7 @@ pub struct Asked {
     pub json: bool,
     pub has_wave: bool,
     pub wave: QuadSamples,
+    pub rules: Rules,
     pub triggers: u64,
     pub budget: u64,
     pub room: u64,
@@ -103,6 +107,9 @@ fn option_named(text: &[u8]) -> u64 {
     if same(text, b"--out") {
         return OUT;
     }
+    if same(text, b"--firmware") {
+        return FIRMWARE;
+    }
     counted_option(text)
 }
 
@@ -114,6 +121,7 @@ fn complain_of_option(option: u64) {
         BUDGET => complain(b"aps2: --budget"),
         ROOM => complain(b"aps2: --room"),
         OUT => complain(b"aps2: --out"),
+        FIRMWARE => complain(b"aps2: --firmware"),
         _ => complain(b"aps2: --trace"),
     }
 }
@@ -127,11 +135,14 @@ fn needs_wave(command: u64) -> bool {
     (command == CHECK) | (command == RUN)
 }
 
-// Whether a command has an option. The words of a listing may go to a file; every other command reads words in two ways and has two ways
-// to tell its answer, check and run need a waveform memory, and the rest are of a run.
+// Whether a command has an option. Every command reads words for a firmware. The words of a listing may go to a file; every other command
+// reads words in two ways and has two ways to tell its answer, check and run need a waveform memory, and the rest are of a run.
 fn has_option(command: u64, option: u64) -> bool {
     if option == 0 {
         return false;
+    }
+    if option == FIRMWARE {
+        return true;
     }
     if (command == WORDS) | (option == OUT) {
         return (command == WORDS) & (option == OUT);
@@ -173,6 +184,7 @@ impl Asked {
             json: false,
             has_wave: false,
             wave: QuadSamples(0),
+            rules: Rules::CURRENT,
             triggers: 0,
             budget: Sequence::BUDGET,
             room: Asked::ROOM,
@@ -263,6 +275,26 @@ impl Asked {
         }
     }
 
+    // The firmware after its option.
+    fn with_firmware(mut self, text: &[u8]) -> Asked {
+        if same(text, b"older") {
+            let older = Rules::OLDER;
+            self.rules = older;
+            return self;
+        }
+        if same(text, b"current") {
+            let current = Rules::CURRENT;
+            self.rules = current;
+            return self;
+        }
+        complain_of_value(
+            FIRMWARE,
+            text,
+            b" is neither older nor current; firmware 2.5 to 2.33 is older\n",
+        );
+        self.bad()
+    }
+
     // The value after an option.
     fn with_value(mut self, text: &[u8], i: usize) -> Asked {
         let option = self.pending;
@@ -278,6 +310,9 @@ impl Asked {
         if option == OUT {
             self.out = i;
             return self;
+        }
+        if option == FIRMWARE {
+            return self.with_firmware(text);
         }
         self.counted(option, text, most_of(option))
     }

@@ -2,17 +2,17 @@
 -- Assumes nothing.
 use Prim.Native.Nat.{ℕ, suc, _+_, _-_, _≤_, _<_}
 use mathlib.Core.Path.{_≡_, refl, sym, ap, _∙_}
-use mathlib.Core.Bool.{Bool, true, false, _||_}
+use mathlib.Core.Bool.{Bool, true, false, not, _||_, _&&_}
 use mathlib.Core.List.{List, [], _∷_, _++_}
 use native.Mathlib.Omega.{arith}
 use native.Mathlib.Numerals.{add-one}
-use borrow.Author.Tests.{eq-eqb, ne-eqb, eqb-true}
+use borrow.Author.Tests.{eq-eqb, ne-eqb, eqb-true, eqb-false, not-true}
 use lib.Dec.{eqb}
 use lib.ListN.{length, take, drop, getD, drop-of-length-le, length-drop}
 use lib.Seq.{drop-cons, drop-drop}
 use Rattle.instruction.specs.Bits.{pick}
 use Rattle.text.specs.Cut.{before, onto, cut, placeOf}
-use Rattle.text.proofs.Bools.{never}
+use Rattle.text.proofs.Bools.{both, never}
 
 -- ---- what is said of a text and a byte
 
@@ -123,6 +123,30 @@ module _ (x : ℕ) (text : List ℕ) (i : ℕ) where
 
     pub place-next : (getD text i 0 ≡ x → ⊥) → placeOf x (i + 1) text ≡ placeOf x i text
     place-next e = omega (arith, ap (λ (l : List ℕ). length (before x l)) part, before-more x (getD text i 0) (drop (i + 1) text) e)
+
+-- four bytes that are others
+module _ (x : ℕ) (text : List ℕ) (i : ℕ) where
+  abbrev other : ℕ → Bool
+  other k = not (eqb (getD text k 0) x)
+
+  next : (k : ℕ) → k < length text → other k ≡ true → placeOf x (k + 1) text ≡ placeOf x k text
+  next k h t = place-next x text k h (eqb-false (getD text k 0) x (not-true _ t))
+
+  pub place-four : i + 4 ≤ length text → (((other i && other (i + 1)) && other (i + 2)) && other (i + 3)) ≡ true → placeOf x (i + 4) text ≡ placeOf x i text
+  place-four h t =
+      let p = both ((other i && other (i + 1)) && other (i + 2)) (other (i + 3)) t in
+      let q = both (other i && other (i + 1)) (other (i + 2)) (p .0) in
+      let r = both (other i) (other (i + 1)) (q .0) in
+      ap (λ (k : ℕ). placeOf x k text) (one-less i 3)
+      ∙ next (i + 3) (omega arith) (p .1)
+      ∙ ap (λ (k : ℕ). placeOf x k text) (one-less i 2)
+      ∙ next (i + 2) (omega arith) (q .1)
+      ∙ ap (λ (k : ℕ). placeOf x k text) (one-less i 1)
+      ∙ next (i + 1) (omega arith) (r .1)
+      ∙ next i (omega arith) (r .0)
+    where
+      one-less : (i k : ℕ) → i + suc k ≡ i + k + 1
+      one-less i k = omega arith
 
 -- ---- a text that is cut at the place that was found
 

@@ -70,3 +70,9 @@ fieldsAfter end line = pick (ltb end (length line)) (cut tab (drop (end + 1) lin
 -- where the first of a byte stands from a place on; the text's end where there is none
 abbrev pub placeOf : ℕ → ℕ → List ℕ → ℕ
 placeOf x from text = from + length (before x (drop from text))
+
+-- ---- what the functions ask
+
+-- how many bytes are passed over at a time where a byte is looked for
+abbrev pub stride : ℕ
+stride = 4

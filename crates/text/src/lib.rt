@@ -5,14 +5,43 @@ ghost use mathlib.Core.Bool.{true};
 ghost use Prim.Native.Nat.{_≤_, _<_, _+_, _*_, _-_};
 ghost use lib.Dec.{ltb};
 ghost use lib.ListN.{length};
-ghost use Rattle.text.specs.Cut.{placeOf, sameText};
+ghost use Rattle.text.specs.Cut.{placeOf, sameText, stride};
 ghost use Rattle.text.specs.Number.{isDigit, noLeadingZero, numbers, uncounted, countedAt, Spelled};
+
+// How many bytes are passed over at a time.
+const STRIDE: usize = 4;
+
+// Whether the bytes of a stride are all others.
+fn are_others(text: &[u8], i: usize, x: u8) -> bool
+    requires { ⌜ i + stride ≤ length (now text) ⌝ }
+    ensures { λ r. ⌜ (r ≡ true → placeOf x (i + stride) (now (text .entry)) ≡ placeOf x i (now (text .entry))) ⌝ }
+{
+    (text[i] != x) & (text[i + 1] != x) & (text[i + 2] != x) & (text[i + 3] != x)
+}
+
+// A place to look for a byte from in another's stead: the strides before it are all others.
+fn stride_over(text: &[u8], from: usize, x: u8) -> usize
+    ensures { λ r. ⌜ placeOf x r (now (text .entry)) ≡ placeOf x from (now (text .entry)) ⌝ }
+{
+    if text.len() < STRIDE {
+        return from;
+    }
+    let last = text.len() - STRIDE;
+    let mut i = from;
+    while i <= last {
+        if !are_others(text, i, x) {
+            return i;
+        }
+        i += STRIDE;
+    }
+    i
+}
 
 // Where the first of a byte stands from a place on; the text's end where there is none.
 pub fn find(text: &[u8], from: usize, x: u8) -> usize
     ensures { λ r. ⌜ r ≡ placeOf x from (now (text .entry)) ⌝ }
 {
-    let mut i = from;
+    let mut i = stride_over(text, from, x);
     while i < text.len() {
         if text[i] == x {
             return i;

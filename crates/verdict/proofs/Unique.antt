@@ -24,6 +24,7 @@ use Rattle.flow.proofs.Rules.{walked}
 use Rattle.sequence.specs.Bounds.{stackDepth}
 use Rattle.verdict.specs.Words.{wordRefusal}
 use Rattle.instruction.specs.Form.{numbered}
+use Rattle.instruction.specs.declared.Rules.{Rules}
 use Rattle.verdict.specs.Check.{WordsAre, passed, first, CheckIs, input, word, flow}
 use Rattle.verdict.specs.declared.Verdict.{Verdict}
 use Rattle.verdict.specs.Flow.{verdict, FlowIs, sound, faulty}
@@ -110,32 +111,32 @@ one-flow lim ws (faulty {number = k} {a = a} f l) (faulty {number = j} {a = b} g
     ap₂ (λ (x y : ℕ). verdict (numbered x) y) (one-number lim ws k j a f (subst (λ (z : ℕ). Fault lim ws j z) (sym e) g)) e
 
 -- the first word that is refused
-pub one-words : (wave : ℕ) (words : List ℕ) {v w : Verdict} → WordsAre wave words v → WordsAre wave words w → v ≡ w
-one-words wave words (passed _) (passed _) = refl
-one-words wave words (passed all) (first {a = b} k _ h) = absurd (h (all b k))
-one-words wave words (first {a = a} l _ h) (passed all) = absurd (h (all a l))
-one-words wave words (first {a = a} l below h) (first {a = b} k under g) = by (decLt a b) (decLt b a)
+pub one-words : (rules : Rules) (wave : ℕ) (words : List ℕ) {v w : Verdict} → WordsAre rules wave words v → WordsAre rules wave words w → v ≡ w
+one-words rules wave words (passed _) (passed _) = refl
+one-words rules wave words (passed all) (first {a = b} k _ h) = absurd (h (all b k))
+one-words rules wave words (first {a = a} l _ h) (passed all) = absurd (h (all a l))
+one-words rules wave words (first {a = a} l below h) (first {a = b} k under g) = by (decLt a b) (decLt b a)
   where
-    by : Dec (a < b) → Dec (b < a) → verdict (wordRefusal wave words a) a ≡ verdict (wordRefusal wave words b) b
+    by : Dec (a < b) → Dec (b < a) → verdict (wordRefusal rules wave words a) a ≡ verdict (wordRefusal rules wave words b) b
     by (yes p) q = absurd (h (under a p))
     by (no p) (yes q) = absurd (g (below b q))
-    by (no p) (no q) = ap (λ (x : ℕ). verdict (wordRefusal wave words x) x) (same a b p q)
+    by (no p) (no q) = ap (λ (x : ℕ). verdict (wordRefusal rules wave words x) x) (same a b p q)
       where
         same : (a b : ℕ) → (a < b → ⊥) → (b < a → ⊥) → a ≡ b
         same a b p q = omega arith
 
 -- The check gives one verdict and one content of marks.
-pub one-answer-check : (wave : ℕ) (words marks : List ℕ) {v w : Verdict} {ns os : List ℕ}
-    → CheckIs wave words marks v ns → CheckIs wave words marks w os → (v ≡ w) × (ns ≡ os)
-one-answer-check wave words marks (input _) (input _) = (refl, refl)
-one-answer-check wave words marks (input h) (word z _ _) = absurd (h z)
-one-answer-check wave words marks (input h) (flow z _ _ _) = absurd (h z)
-one-answer-check wave words marks (word z _ _) (input h) = absurd (h z)
-one-answer-check wave words marks (word _ p _) (word _ q _) = (one-words wave words p q, refl)
-one-answer-check wave words marks (word _ p h) (flow _ all _ _) = absurd (h (ap (λ (x : Verdict). x .refusal .number) (one-words wave words p (passed all))))
-one-answer-check wave words marks (flow z _ _ _) (input h) = absurd (h z)
-one-answer-check wave words marks (flow _ all _ _) (word _ p h) = absurd (h (ap (λ (x : Verdict). x .refusal .number) (one-words wave words p (passed all))))
-one-answer-check wave words marks {ns = ns} {os = os} (flow _ _ m f) (flow _ _ k g) =
+pub one-answer-check : (rules : Rules) (wave : ℕ) (words marks : List ℕ) {v w : Verdict} {ns os : List ℕ}
+    → CheckIs rules wave words marks v ns → CheckIs rules wave words marks w os → (v ≡ w) × (ns ≡ os)
+one-answer-check rules wave words marks (input _) (input _) = (refl, refl)
+one-answer-check rules wave words marks (input h) (word z _ _) = absurd (h z)
+one-answer-check rules wave words marks (input h) (flow z _ _ _) = absurd (h z)
+one-answer-check rules wave words marks (word z _ _) (input h) = absurd (h z)
+one-answer-check rules wave words marks (word _ p _) (word _ q _) = (one-words rules wave words p q, refl)
+one-answer-check rules wave words marks (word _ p h) (flow _ all _ _) = absurd (h (ap (λ (x : Verdict). x .refusal .number) (one-words rules wave words p (passed all))))
+one-answer-check rules wave words marks (flow z _ _ _) (input h) = absurd (h z)
+one-answer-check rules wave words marks (flow _ all _ _) (word _ p h) = absurd (h (ap (λ (x : Verdict). x .refusal .number) (one-words rules wave words p (passed all))))
+one-answer-check rules wave words marks {ns = ns} {os = os} (flow _ _ m f) (flow _ _ k g) =
     (one-flow stackDepth words f g, one-marks stackDepth words marks ns os (m .long ∙ sym (k .long)) (m .exact) (k .exact) (m .tail) (k .tail))
 
 -- ---- what the walk has seen

@@ -16,6 +16,7 @@ use Rattle.instruction.specs.declared.Body.{Body}
 use Rattle.instruction.specs.declared.Body.the-variants.{Waveform, Marker, Wait, LoadRepeat, Repeat, Cmp, Goto, Call, Return, Sync, Modulator, LoadCmp, Prefetch, Noop}
 use Rattle.instruction.specs.declared.Instruction.{Instruction}
 use Rattle.instruction.specs.declared.Refusal.{Refusal}
+use Rattle.instruction.specs.declared.Rules.{Rules}
 use Rattle.reader.specs.Reading.{readingOf, formIn}
 use Rattle.reader.specs.declared.Reading.{Reading}
 use Rattle.reader.specs.declared.Reading.the-variants.{Accepted}
@@ -93,9 +94,9 @@ module _ (wave n : ℕ) (above : List ℕ) (i : Instruction) where
       by (yes e) true o = let q = sym (stands-open e o) ∙ z in absurd (omega arith)
       by (yes e) false o = (e, o)
 
-pub refusal-at : (wave : ℕ) (words : List ℕ) (a : ℕ) {reading : Reading} → readingOf (getD words a 0) ≡ reading → wordRefusal wave words a ≡ refusedAs wave (length words) (drop (a + 1) words) reading
+pub refusal-at : (rules : Rules) (wave : ℕ) (words : List ℕ) (a : ℕ) {reading : Reading} → readingOf rules (getD words a 0) ≡ reading → wordRefusal rules wave words a ≡ refusedAs wave (length words) (drop (a + 1) words) reading
 unfolding wordRefusal
-refusal-at wave words a e = ap (refusedAs wave (length words) (drop (a + 1) words)) e
+refusal-at rules wave words a e = ap (refusedAs wave (length words) (drop (a + 1) words)) e
 
 -- ---- targets
 
@@ -120,50 +121,50 @@ unfolding spelledBy
 noop-spelled = refl
 
 -- what a word that passes is: an instruction that is placed and whose group closes, and what the walk and the groups take it for
-pub record Stands (wave : ℕ) (words : List ℕ) (a : ℕ) : Type 0 where
+pub record Stands (rules : Rules) (wave : ℕ) (words : List ℕ) (a : ℕ) : Type 0 where
   pub instruction : Instruction
-  pub reads : readingOf (getD words a 0) ≡ Accepted instruction
+  pub reads : readingOf rules (getD words a 0) ≡ Accepted instruction
   pub placed : placingOf wave (length words) (instruction .body) ≡ 0
   pub closed : leftOpen instruction (drop (a + 1) words) ≡ false
   pub body : spelledBy (getD words a 0) .body ≡ instruction .body
   pub flag : isEngine (instruction .body) ≡ true → spelledBy (getD words a 0) .write ≡ instruction .write
 
-pub stands : (wave : ℕ) (words : List ℕ) (a : ℕ) → Passes wave words a → Stands wave words a
-stands wave words a e = by (ℕ-discrete w noopWord)
+pub stands : (rules : Rules) (wave : ℕ) (words : List ℕ) (a : ℕ) → Passes rules wave words a → Stands rules wave words a
+stands rules wave words a e = by (ℕ-discrete w noopWord)
   where
     w : ℕ
     w = getD words a 0
 
-    good : (i : Instruction) → readingOf w ≡ Accepted i → standsRefused wave (length words) (drop (a + 1) words) i ≡ 0
-    good i r = sym (ap (λ (q : Refusal). q .number) (refusal-at wave words a r)) ∙ e
+    good : (i : Instruction) → readingOf rules w ≡ Accepted i → standsRefused wave (length words) (drop (a + 1) words) i ≡ 0
+    good i r = sym (ap (λ (q : Refusal). q .number) (refusal-at rules wave words a r)) ∙ e
 
-    form : (w ≡ noopWord → ⊥) → Dec (formIn w ≡ 0) → Stands wave words a
+    form : (w ≡ noopWord → ⊥) → Dec (formIn rules w ≡ 0) → Stands rules wave words a
     form h (yes z) =
-        let s = stood wave (length words) (drop (a + 1) words) (spelledBy w) (good (spelledBy w) (reads w h z)) in
-        record { instruction = spelledBy w; reads = reads w h z; placed = s .0; closed = s .1; body = refl; flag = λ _. refl }
-    form h (no z) = absurd (z (sym (ap (λ (r : Refusal). r .number) (refusal-at wave words a (refuses w h z))) ∙ e))
+        let s = stood wave (length words) (drop (a + 1) words) (spelledBy w) (good (spelledBy w) (reads rules w h z)) in
+        record { instruction = spelledBy w; reads = reads rules w h z; placed = s .0; closed = s .1; body = refl; flag = λ _. refl }
+    form h (no z) = absurd (z (sym (ap (λ (r : Refusal). r .number) (refusal-at rules wave words a (refuses rules w h z))) ∙ e))
 
-    by : Dec (w ≡ noopWord) → Stands wave words a
+    by : Dec (w ≡ noopWord) → Stands rules wave words a
     by (yes z) =
-        let s = stood wave (length words) (drop (a + 1) words) noop (good noop (reads-noop w z)) in
+        let s = stood wave (length words) (drop (a + 1) words) noop (good noop (reads-noop rules w z)) in
         record {
           instruction = noop;
-          reads = reads-noop w z;
+          reads = reads-noop rules w z;
           placed = s .0;
           closed = s .1;
           body = ap (λ (x : ℕ). spelledBy x .body) z ∙ noop-spelled;
           flag = λ q. let x : _≡_ {A = ℕ} 0 1 = cc in absurd (omega arith);
         }
-    by (no h) = form h (ℕ-discrete (formIn w) 0)
+    by (no h) = form h (ℕ-discrete (formIn rules w) 0)
 
-pub target : (wave : ℕ) (words : List ℕ) (a : ℕ) → 0 < length words → Passes wave words a → toOf (moveAt words a) < length words
-target wave words a p e =
-    let s = stands wave words a e in
+pub target : (rules : Rules) (wave : ℕ) (words : List ℕ) (a : ℕ) → 0 < length words → Passes rules wave words a → toOf (moveAt words a) < length words
+target rules wave words a p e =
+    let s = stands rules wave words a e in
     subst (λ (b : Body). toOf (moveOf b) < length words) (sym (s .body))
     (target-body (length words) (s .instruction .body) p (placed-words wave (length words) (s .instruction .body) (s .placed)))
 
-pub targets : (wave : ℕ) (words : List ℕ) → 0 < length words → ((a : ℕ) → a < length words → Passes wave words a) → Targets words
-targets wave words p all a l = target wave words a p (all a l)
+pub targets : (rules : Rules) (wave : ℕ) (words : List ℕ) → 0 < length words → ((a : ℕ) → a < length words → Passes rules wave words a) → Targets words
+targets rules wave words p all a l = target rules wave words a p (all a l)
 
 -- ---- the input
 
@@ -209,13 +210,13 @@ module _ (n wave room : ℕ) where
 
 -- ---- all words
 
-pub passes-more : (wave : ℕ) (words : List ℕ) (a : ℕ) → ((b : ℕ) → b < a → Passes wave words b) → Passes wave words a → (b : ℕ) → b < a + 1 → Passes wave words b
-passes-more wave words a all p b h = by (ℕ-discrete b a)
+pub passes-more : (rules : Rules) (wave : ℕ) (words : List ℕ) (a : ℕ) → ((b : ℕ) → b < a → Passes rules wave words b) → Passes rules wave words a → (b : ℕ) → b < a + 1 → Passes rules wave words b
+passes-more rules wave words a all p b h = by (ℕ-discrete b a)
   where
-    by : Dec (b ≡ a) → Passes wave words b
-    by (yes e) = subst (λ (z : ℕ). Passes wave words z) (sym e) p
+    by : Dec (b ≡ a) → Passes rules wave words b
+    by (yes e) = subst (λ (z : ℕ). Passes rules wave words z) (sym e) p
     by (no n) = all b (omega arith)
 
-pub all-pass : (wave : ℕ) (words : List ℕ) {v : Verdict} → WordsAre wave words v → v .refusal .number ≡ 0 → (a : ℕ) → a < length words → Passes wave words a
-all-pass wave words (passed all) z = all
-all-pass wave words (first l below h) z = absurd (h z)
+pub all-pass : (rules : Rules) (wave : ℕ) (words : List ℕ) {v : Verdict} → WordsAre rules wave words v → v .refusal .number ≡ 0 → (a : ℕ) → a < length words → Passes rules wave words a
+all-pass rules wave words (passed all) z = all
+all-pass rules wave words (first l below h) z = absurd (h z)

@@ -8,6 +8,7 @@ use lib.Dec.{ltb, eqb}
 use lib.ListN.{length}
 use Rattle.instruction.specs.Bits.{_gives_else_}
 use Rattle.instruction.specs.Form.{numbered}
+use Rattle.instruction.specs.declared.Rules.{Rules}
 use Rattle.sequence.specs.Bounds.{stackDepth, lengthsRefused}
 use Rattle.walk.specs.Marks.{Marked}
 use Rattle.verdict.specs.Flow.{verdict, FlowIs}
@@ -22,13 +23,13 @@ checkInputRefused n wave room =
     else 0
 
 -- "each word in address order": the first that is refused, or 0 at 0
-pub data WordsAre (wave : ℕ) (words : List ℕ) : Verdict → Type 0 where
-  passed : ((a : ℕ) → a < length words → Passes wave words a) → WordsAre wave words (verdict (numbered 0) 0)
-  first : {a : ℕ} → a < length words → ((b : ℕ) → b < a → Passes wave words b) → (Passes wave words a → ⊥) → WordsAre wave words (verdict (wordRefusal wave words a) a)
+pub data WordsAre (rules : Rules) (wave : ℕ) (words : List ℕ) : Verdict → Type 0 where
+  passed : ((a : ℕ) → a < length words → Passes rules wave words a) → WordsAre rules wave words (verdict (numbered 0) 0)
+  first : {a : ℕ} → a < length words → ((b : ℕ) → b < a → Passes rules wave words b) → (Passes rules wave words a → ⊥) → WordsAre rules wave words (verdict (wordRefusal rules wave words a) a)
 
 -- "Marks are written only once all words pass, also when flow then refuses; longer marks keep their tail."
-pub data CheckIs (wave : ℕ) (words marks : List ℕ) : Verdict → List ℕ → Type 0 where
-  input : (checkInputRefused (length words) wave (length marks) ≡ 0 → ⊥) → CheckIs wave words marks (verdict (numbered (checkInputRefused (length words) wave (length marks))) 0) marks
-  word : {v : Verdict} → checkInputRefused (length words) wave (length marks) ≡ 0 → WordsAre wave words v → (v .refusal .number ≡ 0 → ⊥) → CheckIs wave words marks v marks
-  flow : {v : Verdict} {ns : List ℕ} → checkInputRefused (length words) wave (length marks) ≡ 0 → ((a : ℕ) → a < length words → Passes wave words a)
-      → Marked stackDepth words marks ns → FlowIs stackDepth words v → CheckIs wave words marks v ns
+pub data CheckIs (rules : Rules) (wave : ℕ) (words marks : List ℕ) : Verdict → List ℕ → Type 0 where
+  input : (checkInputRefused (length words) wave (length marks) ≡ 0 → ⊥) → CheckIs rules wave words marks (verdict (numbered (checkInputRefused (length words) wave (length marks))) 0) marks
+  word : {v : Verdict} → checkInputRefused (length words) wave (length marks) ≡ 0 → WordsAre rules wave words v → (v .refusal .number ≡ 0 → ⊥) → CheckIs rules wave words marks v marks
+  flow : {v : Verdict} {ns : List ℕ} → checkInputRefused (length words) wave (length marks) ≡ 0 → ((a : ℕ) → a < length words → Passes rules wave words a)
+      → Marked stackDepth words marks ns → FlowIs stackDepth words v → CheckIs rules wave words marks v ns

@@ -11,6 +11,7 @@ use Rattle.instruction.specs.Form.{numbered}
 use Rattle.instruction.specs.Word.{spelledBy}
 use Rattle.instruction.specs.declared.Instruction.{Instruction}
 use Rattle.instruction.specs.declared.Refusal.{Refusal}
+use Rattle.instruction.specs.declared.Rules.{Rules}
 use Rattle.reader.specs.Reading.{readingOf}
 use Rattle.reader.specs.declared.Reading.{Reading}
 use Rattle.reader.specs.declared.Reading.the-variants.{Accepted, Refused}
@@ -48,8 +49,8 @@ refusedAs wave n above (Refused r) = r
 refusedAs wave n above (Accepted i) = numbered (standsRefused wave n above i)
 
 -- the refusal of the word at an address; number 0 passes
-unfoldable pub wordRefusal : ℕ → List ℕ → ℕ → Refusal
-wordRefusal wave words a = refusedAs wave (length words) (drop (a + 1) words) (readingOf (getD words a 0))
+unfoldable pub wordRefusal : Rules → ℕ → List ℕ → ℕ → Refusal
+wordRefusal rules wave words a = refusedAs wave (length words) (drop (a + 1) words) (readingOf rules (getD words a 0))
 
-abbrev pub Passes : ℕ → List ℕ → ℕ → Type 0
-Passes wave words a = wordRefusal wave words a .number ≡ 0
+abbrev pub Passes : Rules → ℕ → List ℕ → ℕ → Type 0
+Passes rules wave words a = wordRefusal rules wave words a .number ≡ 0

@@ -12,6 +12,7 @@ use flow::Moves;
 use instruction::Instruction;
 use instruction::QuadSamples;
 use instruction::Refusal;
+use instruction::Rules;
 use instruction::WordAddress;
 use look::fault_of;
 use reader::coarse_of;
@@ -129,12 +130,12 @@ fn stands_refused(words: &[u64], wave: QuadSamples, above: usize, i: Instruction
 }
 
 // The refusal of the word at an address; number 0 passes.
-fn word_refusal(words: &[u64], wave: QuadSamples, a: usize) -> Refusal
+fn word_refusal(words: &[u64], wave: QuadSamples, rules: Rules, a: usize) -> Refusal
     requires { ⌜ a < length (now words) ⌝ }
-    ensures { λ r. ⌜ r ≡ wordRefusal (wave .0) (now (words .entry)) a ⌝ }
+    ensures { λ r. ⌜ r ≡ wordRefusal rules (wave .0) (now (words .entry)) a ⌝ }
 {
     let word = words[a];
-    let coarse = coarse_of(word);
+    let coarse = coarse_of(word, rules);
     if coarse != 0 {
         return finer(word, coarse);
     }
@@ -145,12 +146,12 @@ fn word_refusal(words: &[u64], wave: QuadSamples, a: usize) -> Refusal
 }
 
 // The first word that is refused.
-fn judge_words(words: &[u64], wave: QuadSamples) -> Verdict
-    ensures { λ r. ⌜ WordsAre (wave .0) (now (words .entry)) r ⌝ }
+fn judge_words(words: &[u64], wave: QuadSamples, rules: Rules) -> Verdict
+    ensures { λ r. ⌜ WordsAre rules (wave .0) (now (words .entry)) r ⌝ }
 {
     let mut a: usize = 0;
     while a < words.len() {
-        let refusal = word_refusal(words, wave, a);
+        let refusal = word_refusal(words, wave, rules, a);
         if refusal.number != 0 {
             return Verdict {
                 refusal,
@@ -180,8 +181,8 @@ fn input_refused(n: u64, wave: QuadSamples, room: u64) -> u64
 }
 
 // Check.
-pub fn check(words: &[u64], wave: QuadSamples, marks: &mut [u64]) -> Verdict
-    ensures { λ r. ⌜ CheckIs (wave .0) (now (words .entry)) (now (marks .entry)) r (now (marks .exit)) ⌝ }
+pub fn check(words: &[u64], wave: QuadSamples, rules: Rules, marks: &mut [u64]) -> Verdict
+    ensures { λ r. ⌜ CheckIs rules (wave .0) (now (words .entry)) (now (marks .entry)) r (now (marks .exit)) ⌝ }
 {
     let input = input_refused(words.len() as u64, wave, marks.len() as u64);
     if input != 0 {
@@ -193,7 +194,7 @@ pub fn check(words: &[u64], wave: QuadSamples, marks: &mut [u64]) -> Verdict
             place: WordAddress(0),
         };
     }
-    let v = judge_words(words, wave);
+    let v = judge_words(words, wave, rules);
     if v.refusal.number != 0 {
         return v;
     }

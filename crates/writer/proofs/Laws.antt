@@ -6,20 +6,21 @@ use borrow.Author.Tests.{eq-eqb, ne-eqb}
 use Rattle.instruction.specs.Form.{formOf}
 use Rattle.instruction.specs.Word.{fitsOf, wordOf}
 use Rattle.instruction.specs.declared.Instruction.{Instruction}
+use Rattle.instruction.specs.declared.Rules.{Rules}
 use Rattle.writer.specs.Writing.{askedOf, writtenOf}
 
-pub asked-wide : (i : Instruction) → fitsOf i ≡ false → askedOf i ≡ 23
+pub asked-wide : (rules : Rules) (i : Instruction) → fitsOf i ≡ false → askedOf rules i ≡ 23
 unfolding askedOf
-asked-wide i e = rw e
+asked-wide rules i e = rw e
 
-pub asked-fitting : (i : Instruction) → fitsOf i ≡ true → askedOf i ≡ formOf i
+pub asked-fitting : (rules : Rules) (i : Instruction) → fitsOf i ≡ true → askedOf rules i ≡ formOf rules i
 unfolding askedOf
-asked-fitting i e = rw e
+asked-fitting rules i e = rw e
 
-pub written-good : (i : Instruction) → askedOf i ≡ 0 → writtenOf i ≡ record { number = askedOf i; word = wordOf i }
+pub written-good : (rules : Rules) (i : Instruction) → askedOf rules i ≡ 0 → writtenOf rules i ≡ record { number = askedOf rules i; word = wordOf i }
 unfolding writtenOf
-written-good i e = simp (eq-eqb _ _ e)
+written-good rules i e = simp (eq-eqb _ _ e)
 
-pub written-bad : (i : Instruction) → (askedOf i ≡ 0 → ⊥) → writtenOf i ≡ record { number = askedOf i; word = 0 }
+pub written-bad : (rules : Rules) (i : Instruction) → (askedOf rules i ≡ 0 → ⊥) → writtenOf rules i ≡ record { number = askedOf rules i; word = 0 }
 unfolding writtenOf
-written-bad i h = simp (ne-eqb _ _ h)
+written-bad rules i h = simp (ne-eqb _ _ h)

@@ -4,6 +4,7 @@ ghost use mathlib.Core.Path.{_≡_};
 ghost use Rattle.writer.specs.Writing.{askedOf, writtenOf};
 use instruction::Instruction;
 use instruction::Refusal;
+use instruction::Rules;
 use laid::widths::fits;
 use laid::word::word_of;
 
@@ -13,19 +14,19 @@ pub struct Written {
 }
 
 // 23 first, then the form number, or 0.
-fn asked(i: Instruction) -> u64
-    ensures { λ r. ⌜ r ≡ askedOf i ⌝ }
+fn asked(i: Instruction, rules: Rules) -> u64
+    ensures { λ r. ⌜ r ≡ askedOf rules i ⌝ }
 {
     if !fits(i) {
         return Refusal::TOO_WIDE;
     }
-    i.form()
+    i.form(rules)
 }
 
-pub fn write(i: Instruction) -> Written
-    ensures { λ r. ⌜ r ≡ writtenOf i ⌝ }
+pub fn write(i: Instruction, rules: Rules) -> Written
+    ensures { λ r. ⌜ r ≡ writtenOf rules i ⌝ }
 {
-    let number = asked(i);
+    let number = asked(i, rules);
     let word = word_of(i);
     if number == 0 {
         Written { number, word }

@@ -6,6 +6,7 @@ use Prim.Native.Nat.{ℕ}
 use denote.Ref.{now}
 use lib.ListN.{getD, length}
 use Rattle.instruction.specs.declared.Body.{Body}
+use Rattle.instruction.specs.declared.Rules.{Rules}
 use Rattle.writer.specs.Writing.{writtenOf}
 use Rattle.aps2_c.specs.Fields.{numbersOf, filledPast, valuesAsked, asked}
 use Rattle.aps2_c.proofs.Laws.{wish-past, wish-name, wish-none, wish-wide}
@@ -34,6 +35,9 @@ element-copy-out-body-of-3 c = search needs
 element-copy-out-body-of-4 : tie.Need-element-copy-out-body-of-4
 element-copy-out-body-of-4 c = search needs
 
+abbrev rulesAt : tie.After-filled-past → Rules
+rulesAt d = d .before .before .before .before .before .before .before .before .before .before .args .rules
+
 -- the fields lent, where the last of them was judged
 abbrev fieldsAt : tie.After-filled-past → List ℕ
 fieldsAt d = now (d .before .before .before .before .before .before .before .before .before .before .args .fields)
@@ -56,7 +60,7 @@ returns : tie.Need-returns
 returns c =
     let d = c .before in
     let fs = fieldsAt d in
-    sym (wish-past fs (past d ∙ c .if1 .taken))
+    sym (wish-past (rulesAt d) fs (past d ∙ c .if1 .taken))
 
 is-name-requires : tie.Need-is-name-requires
 is-name-requires c κs = search needs
@@ -69,8 +73,8 @@ returns-2 c =
     let d = c .before .before .before .before in
     let fs = fieldsAt d in
     c .write .ensures
-    ∙ ap (λ (b : Body). writtenOf (record { engine = getD fs 1 0; write = getD fs 2 0; body = b })) (d .before .before .body-of .ensures)
-    ∙ sym (wish-name fs (past d ∙ c .before .before .before .if1 .left) (sym (c .before .before .is-name .ensures) ∙ c .before .if2 .taken))
+    ∙ ap (λ (b : Body). writtenOf (rulesAt d) (record { engine = getD fs 1 0; write = getD fs 2 0; body = b })) (d .before .before .body-of .ensures)
+    ∙ sym (wish-name (rulesAt d) fs (past d ∙ c .before .before .before .if1 .left) (sym (c .before .before .is-name .ensures) ∙ c .before .if2 .taken))
 
 header-fits-requires : tie.Need-header-fits-requires
 header-fits-requires c κs = search needs
@@ -79,7 +83,7 @@ returns-3 : tie.Need-returns-3
 returns-3 c =
     let d = c .before .before .before .before .before in
     let fs = fieldsAt d in
-    sym (wish-none fs (past d ∙ c .before .before .before .before .if1 .left)
+    sym (wish-none (rulesAt d) fs (past d ∙ c .before .before .before .before .if1 .left)
     (sym (c .before .before .before .is-name .ensures) ∙ c .before .before .if2 .left)
     (sym (c .before .header-fits .ensures) ∙ c .if3 .taken))
 
@@ -87,7 +91,7 @@ returns-4 : tie.Need-returns-4
 returns-4 c =
     let d = c .before .before .before .before .before in
     let fs = fieldsAt d in
-    sym (wish-wide fs (past d ∙ c .before .before .before .before .if1 .left)
+    sym (wish-wide (rulesAt d) fs (past d ∙ c .before .before .before .before .if1 .left)
     (sym (c .before .before .before .is-name .ensures) ∙ c .before .before .if2 .left)
     (sym (c .before .header-fits .ensures) ∙ c .if3 .left))
 

@@ -20,7 +20,7 @@ array-share-prefix-out c = search needs
 
 -- src/main.rt:108:19
 slice-aggregate-say : tie.Need-slice-aggregate-say
-slice-aggregate-say c = sym (length-take-le (c .before .before .before .list .result) (c .before .before .before .list .last .1 .0) (omega (arith, c .before .if1 .taken, c .before .before .before .list .kept .1 .0)))
+slice-aggregate-say c = sym (length-take-le (c .before .before .before .list .result) (c .before .before .before .list .last .1 .1 .0) (omega (arith, c .before .if1 .taken, c .before .before .before .list .kept .1 .1 .0)))
 
 -- src/main.rt:108:9
 say-requires : tie.Need-say-requires

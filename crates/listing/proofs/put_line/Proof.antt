@@ -21,16 +21,16 @@ of-requires : tie.Need-of-requires
 of-requires c κs = search needs
 
 put-number-requires : tie.Need-put-number-requires
-put-number-requires c κs = fits-first (decimal (c .before .before .before .before .before .args .address)) (restText (entriesIn (readingOf (c .before .before .before .before .before .args .word)))) (c .before .before .before .before .before .args .page .now) (c .before .before .before .before .before .args .at) (c .before .before .before .before .before .pre)
+put-number-requires c κs = fits-first (decimal (c .before .before .before .before .before .args .address)) (restText (entriesIn (readingOf (c .before .before .before .before .before .args .rules) (c .before .before .before .before .before .args .word)))) (c .before .before .before .before .before .args .page .now) (c .before .before .before .before .before .args .at) (c .before .before .before .before .before .pre)
 
 put-reading-requires : tie.Need-put-reading-requires
-put-reading-requires c κs = subst (λ (q : Reading). Fits (restText (entriesIn q)) (c .before .before .before .put-number .last .0) (c .before .before .before .put-number .result)) (sym (put-together (c .before .before .before .before .before .before .before .before .before .args .word) (c .before .before .before .before .before .of .ensures) (c .before .before .before .before .before .before .before .coarse-of .ensures) (c .before .before .before .before .before .before .instruction-in .ensures))) (fits-next (decimal (c .before .before .before .before .before .before .before .before .before .args .address)) (restText (entriesIn (readingOf (c .before .before .before .before .before .before .before .before .before .args .word)))) (c .before .before .before .before .before .before .before .before .before .args .page .now) (c .before .before .before .before .before .before .before .before .before .args .at) (c .before .before .before .before .before .before .before .before .before .pre) (c .before .before .before .put-number .ensures))
+put-reading-requires c κs = subst (λ (q : Reading). Fits (restText (entriesIn q)) (c .before .before .before .put-number .last .0) (c .before .before .before .put-number .result)) (sym (put-together (c .before .before .before .before .before .before .before .before .before .args .rules) (c .before .before .before .before .before .before .before .before .before .args .word) (c .before .before .before .before .before .of .ensures) (c .before .before .before .before .before .before .before .coarse-of .ensures) (c .before .before .before .before .before .before .instruction-in .ensures))) (fits-next (decimal (c .before .before .before .before .before .before .before .before .before .args .address)) (restText (entriesIn (readingOf (c .before .before .before .before .before .before .before .before .before .args .rules) (c .before .before .before .before .before .before .before .before .before .args .word)))) (c .before .before .before .before .before .before .before .before .before .args .page .now) (c .before .before .before .before .before .before .before .before .before .args .at) (c .before .before .before .before .before .before .before .before .before .pre) (c .before .before .before .put-number .ensures))
 
 same-length : tie.Need-same-length
 same-length c = search needs
 
 returns : tie.Need-returns
-returns c = puts-both (decimal (c .before .before .before .before .before .before .before .before .before .before .before .before .args .address)) (restText (entriesIn (readingOf (c .before .before .before .before .before .before .before .before .before .before .before .before .args .word)))) (c .before .before .before .before .before .before .before .before .before .before .before .before .args .page .now) (c .before .before .before .before .before .before .before .before .before .before .before .before .args .at) (c .before .before .before .before .before .before .before .before .before .before .before .before .pre) (c .before .before .before .before .before .before .put-number .ensures) (subst (λ (q : Reading). Put (restText (entriesIn q)) (c .before .before .before .before .before .before .put-number .last .0) (c .before .before .before .before .before .before .put-number .result) (c .before .before .put-reading .last .0) (c .before .before .put-reading .result)) (put-together (c .before .before .before .before .before .before .before .before .before .before .before .before .args .word) (c .before .before .before .before .before .before .before .before .of .ensures) (c .before .before .before .before .before .before .before .before .before .before .coarse-of .ensures) (c .before .before .before .before .before .before .before .before .before .instruction-in .ensures)) (c .before .before .put-reading .ensures))
+returns c = puts-both (decimal (c .before .before .before .before .before .before .before .before .before .before .before .before .args .address)) (restText (entriesIn (readingOf (c .before .before .before .before .before .before .before .before .before .before .before .before .args .rules) (c .before .before .before .before .before .before .before .before .before .before .before .before .args .word)))) (c .before .before .before .before .before .before .before .before .before .before .before .before .args .page .now) (c .before .before .before .before .before .before .before .before .before .before .before .before .args .at) (c .before .before .before .before .before .before .before .before .before .before .before .before .pre) (c .before .before .before .before .before .before .put-number .ensures) (subst (λ (q : Reading). Put (restText (entriesIn q)) (c .before .before .before .before .before .before .put-number .last .0) (c .before .before .before .before .before .before .put-number .result) (c .before .before .put-reading .last .0) (c .before .before .put-reading .result)) (put-together (c .before .before .before .before .before .before .before .before .before .before .before .before .args .rules) (c .before .before .before .before .before .before .before .before .before .before .before .before .args .word) (c .before .before .before .before .before .before .before .before .of .ensures) (c .before .before .before .before .before .before .before .before .before .before .coarse-of .ensures) (c .before .before .before .before .before .before .before .before .before .instruction-in .ensures)) (c .before .before .put-reading .ensures))
 
 pub put-line-spec : {M : Type 1} → statement M
 put-line-spec =

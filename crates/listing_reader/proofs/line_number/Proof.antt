@@ -9,7 +9,7 @@ use Rattle.listing_reader.proofs.line_number.Statement.{statement}
 use Rattle.listing_reader.proofs.line_number.Tie as tie
 
 returns : tie.Need-returns
-returns c = number-open (c .before .before .args .room) (c .before .before .args .a) (rowAt (c .before .before .args .text .now) (c .before .before .args .at) (c .before .before .args .end)) (le-ltb (c .before .before .args .end) (length (c .before .before .args .text .now)) (c .if1 .taken))
+returns c = number-open (c .before .before .args .rules) (c .before .before .args .room) (c .before .before .args .a) (rowAt (c .before .before .args .text .now) (c .before .before .args .at) (c .before .before .args .end)) (le-ltb (c .before .before .args .end) (length (c .before .before .args .text .now)) (c .if1 .taken))
 
 sub-read-line : tie.Need-sub-read-line
 sub-read-line c = search needs
@@ -24,13 +24,13 @@ read-line-requires : tie.Need-read-line-requires
 read-line-requires c κs = search needs
 
 returns-2 : tie.Need-returns-2
-returns-2 c = number-bad (c .before .before .before .before .before .before .args .room) (c .before .before .before .before .before .before .args .a) (rowAt (c .before .before .before .before .before .before .args .text .now) (c .before .before .before .before .before .before .args .at) (c .before .before .before .before .before .before .args .end)) (read-number (c .before .before .before .before .before .before .args .text .now) (c .before .before .before .before .before .before .args .at) (c .before .before .before .before .before .before .args .end) (c .before .before .before .before .before .before .args .a) (c .before .before .before .before .if1 .left) (c .before .before .read-line .ensures)) (c .if2 .taken)
+returns-2 c = number-bad (c .before .before .before .before .before .before .args .rules) (c .before .before .before .before .before .before .args .room) (c .before .before .before .before .before .before .args .a) (rowAt (c .before .before .before .before .before .before .args .text .now) (c .before .before .before .before .before .before .args .at) (c .before .before .before .before .before .before .args .end)) (read-number (c .before .before .before .before .before .before .args .rules) (c .before .before .before .before .before .before .args .text .now) (c .before .before .before .before .before .before .args .at) (c .before .before .before .before .before .before .args .end) (c .before .before .before .before .before .before .args .a) (c .before .before .before .before .if1 .left) (c .before .before .read-line .ensures)) (c .if2 .taken)
 
 returns-3 : tie.Need-returns-3
-returns-3 c = number-full (c .before .before .before .before .before .before .before .args .room) (c .before .before .before .before .before .before .before .args .a) (rowAt (c .before .before .before .before .before .before .before .args .text .now) (c .before .before .before .before .before .before .before .args .at) (c .before .before .before .before .before .before .before .args .end)) (sym (read-number (c .before .before .before .before .before .before .before .args .text .now) (c .before .before .before .before .before .before .before .args .at) (c .before .before .before .before .before .before .before .args .end) (c .before .before .before .before .before .before .before .args .a) (c .before .before .before .before .before .if1 .left) (c .before .before .before .read-line .ensures)) ∙ c .before .if2 .left) (c .if3 .taken)
+returns-3 c = number-full (c .before .before .before .before .before .before .before .args .rules) (c .before .before .before .before .before .before .before .args .room) (c .before .before .before .before .before .before .before .args .a) (rowAt (c .before .before .before .before .before .before .before .args .text .now) (c .before .before .before .before .before .before .before .args .at) (c .before .before .before .before .before .before .before .args .end)) (sym (read-number (c .before .before .before .before .before .before .before .args .rules) (c .before .before .before .before .before .before .before .args .text .now) (c .before .before .before .before .before .before .before .args .at) (c .before .before .before .before .before .before .before .args .end) (c .before .before .before .before .before .before .before .args .a) (c .before .before .before .before .before .if1 .left) (c .before .before .before .read-line .ensures)) ∙ c .before .if2 .left) (c .if3 .taken)
 
 returns-4 : tie.Need-returns-4
-returns-4 c = number-none (c .before .before .before .before .before .before .before .args .room) (c .before .before .before .before .before .before .before .args .a) (rowAt (c .before .before .before .before .before .before .before .args .text .now) (c .before .before .before .before .before .before .before .args .at) (c .before .before .before .before .before .before .before .args .end)) (sym (read-number (c .before .before .before .before .before .before .before .args .text .now) (c .before .before .before .before .before .before .before .args .at) (c .before .before .before .before .before .before .before .args .end) (c .before .before .before .before .before .before .before .args .a) (c .before .before .before .before .before .if1 .left) (c .before .before .before .read-line .ensures)) ∙ c .before .if2 .left) (c .if3 .left)
+returns-4 c = number-none (c .before .before .before .before .before .before .before .args .rules) (c .before .before .before .before .before .before .before .args .room) (c .before .before .before .before .before .before .before .args .a) (rowAt (c .before .before .before .before .before .before .before .args .text .now) (c .before .before .before .before .before .before .before .args .at) (c .before .before .before .before .before .before .before .args .end)) (sym (read-number (c .before .before .before .before .before .before .before .args .rules) (c .before .before .before .before .before .before .before .args .text .now) (c .before .before .before .before .before .before .before .args .at) (c .before .before .before .before .before .before .before .args .end) (c .before .before .before .before .before .before .before .args .a) (c .before .before .before .before .before .if1 .left) (c .before .before .before .read-line .ensures)) ∙ c .before .if2 .left) (c .if3 .left)
 
 pub line-number-spec : {M : Type 1} → statement M
 line-number-spec =

@@ -10,7 +10,7 @@ header-end-requires : tie.Need-header-end-requires
 header-end-requires c κs = search needs
 
 returns : tie.Need-returns
-returns c = not-headed (c .before .before .before .before .args .text .now) (c .before .before .before .before .args .words .now) (c .before .header-end .ensures) (c .if1 .taken)
+returns c = not-headed (c .before .before .before .before .args .rules) (c .before .before .before .before .args .text .now) (c .before .before .before .before .args .words .now) (c .before .header-end .ensures) (c .if1 .taken)
 
 judge-requires : tie.Need-judge-requires
 judge-requires c κs = search needs
@@ -22,10 +22,10 @@ same-length : tie.Need-same-length
 same-length c = search needs
 
 returns-2 : tie.Need-returns-2
-returns-2 c = reads-whole (c .before .before .before .before .before .before .before .before .before .before .before .args .text .now) (c .before .before .before .before .before .before .before .before .before .before .before .args .words .now) (c .before .before .before .before .before .before .before .before .header-end .ensures) (c .before .before .before .before .before .before .before .if1 .left) (c .before .before .before .before .before .before .judge .ensures) (c .before .before .before .before .if2 .taken) (c .before .before .fill .ensures)
+returns-2 c = reads-whole (c .before .before .before .before .before .before .before .before .before .before .before .args .rules) (c .before .before .before .before .before .before .before .before .before .before .before .args .text .now) (c .before .before .before .before .before .before .before .before .before .before .before .args .words .now) (c .before .before .before .before .before .before .before .before .header-end .ensures) (c .before .before .before .before .before .before .before .if1 .left) (c .before .before .before .before .before .before .judge .ensures) (c .before .before .before .before .if2 .taken) (c .before .before .fill .ensures)
 
 returns-3 : tie.Need-returns-3
-returns-3 c = reads-refused (c .before .before .before .before .before .before .before .args .text .now) (c .before .before .before .before .before .before .before .args .words .now) (c .before .before .before .before .header-end .ensures) (c .before .before .before .if1 .left) (c .before .before .judge .ensures) (c .if2 .left)
+returns-3 c = reads-refused (c .before .before .before .before .before .before .before .args .rules) (c .before .before .before .before .before .before .before .args .text .now) (c .before .before .before .before .before .before .before .args .words .now) (c .before .before .before .before .header-end .ensures) (c .before .before .before .if1 .left) (c .before .before .judge .ensures) (c .if2 .left)
 
 pub read-listing-spec : {M : Type 1} → statement M
 read-listing-spec =

@@ -46,7 +46,7 @@ refusal-requires c κs = search needs
 returns-2 : tie.Need-returns-2
 returns-2 c =
     let a = c .before .before .before .before .before .before .before .before .before .before .before .args in
-    rw (step-refused (fixedBy (now (a .words)) (now (a .messages)) (length (now (a .trace))) (a .setting)) (stateOf (a .s) (now (a .returns)) (now (a .counters)) (now (a .waits)) (now (a .totals))) _ (c .before .before .before .before .before .before .before .if1 .left) (sym (put-together _ (c .before .before .before .of .ensures) (c .before .before .before .before .before .coarse-of .ensures) (c .before .before .before .before .instruction-in .ensures)) ∙ c .before .enum-told .given .1))
+    rw (step-refused (fixedBy (now (a .words)) (now (a .messages)) (length (now (a .trace))) (a .setting)) (stateOf (a .s) (now (a .returns)) (now (a .counters)) (now (a .waits)) (now (a .totals))) _ (c .before .before .before .before .before .before .before .if1 .left) (sym (put-together _ _ (c .before .before .before .of .ensures) (c .before .before .before .before .before .coarse-of .ensures) (c .before .before .before .before .instruction-in .ensures)) ∙ c .before .enum-told .given .1))
     (quiet (a .s .sent) (now (a .trace)) refl (refused-done (c .refusal .ensures ∙ ap refusalOf (c .before .enum-told .given .1))))
 
 execute-requires : tie.Need-execute-requires
@@ -58,7 +58,7 @@ same-length c = search needs
 returns-3 : tie.Need-returns-3
 returns-3 c =
     let a = c .before .before .before .before .before .before .before .before .before .before .before .before .before .before .before .before .before .before .before .args in
-    rw (step-accepted (fixedBy (now (a .words)) (now (a .messages)) (length (now (a .trace))) (a .setting)) (stateOf (a .s) (now (a .returns)) (now (a .counters)) (now (a .waits)) (now (a .totals))) _ (c .before .before .before .before .before .before .before .before .before .before .before .before .before .before .before .if1 .left) (sym (put-together _ (c .before .before .before .before .before .before .before .before .before .before .before .of .ensures) (c .before .before .before .before .before .before .before .before .before .before .before .before .before .coarse-of .ensures) (c .before .before .before .before .before .before .before .before .before .before .before .before .instruction-in .ensures)) ∙ c .before .before .before .before .before .before .before .before .before .reading .given .1)) (c .before .before .execute .ensures)
+    rw (step-accepted (fixedBy (now (a .words)) (now (a .messages)) (length (now (a .trace))) (a .setting)) (stateOf (a .s) (now (a .returns)) (now (a .counters)) (now (a .waits)) (now (a .totals))) _ (c .before .before .before .before .before .before .before .before .before .before .before .before .before .before .before .if1 .left) (sym (put-together _ _ (c .before .before .before .before .before .before .before .before .before .before .before .of .ensures) (c .before .before .before .before .before .before .before .before .before .before .before .before .before .coarse-of .ensures) (c .before .before .before .before .before .before .before .before .before .before .before .before .instruction-in .ensures)) ∙ c .before .before .before .before .before .before .before .before .before .reading .given .1)) (c .before .before .execute .ensures)
 
 pub step-spec : {M : Type 1} → statement M
 step-spec =

@@ -21,7 +21,7 @@ flow-form-requires : tie.Need-flow-form-requires
 flow-form-requires c κs = flow-codes _ (ap (λ (k : ℕ). leb 3 k && leb k 8) (sym (c .before .before .code-in .ensures)) ∙ c .if2 .taken)
 
 returns-2 : tie.Need-returns-2
-returns-2 c = search needs
+returns-2 c = c .flow-form .ensures (c .before .before .before .before .args .rules)
 
 form-in-requires : tie.Need-form-in-requires
 form-in-requires c κs = search needs

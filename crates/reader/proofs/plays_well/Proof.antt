@@ -11,7 +11,7 @@ has-unnamed-requires : tie.Need-has-unnamed-requires
 has-unnamed-requires c κs = search needs
 
 returns : tie.Need-returns
-returns c = play-passes (c .before .before .before .before .args .word) _ (c .before .before .before .spelled-by .result) (c .before .before .before .before .pre) (c .before .before .has-unnamed .ensures) (c .before .before .before .spelled-by .ensures)
+returns c rules = play-passes rules (c .before .before .before .before .args .word) _ (c .before .before .before .spelled-by .result) (c .before .before .before .before .pre) (c .before .before .has-unnamed .ensures) (c .before .before .before .spelled-by .ensures)
 
 pub plays-well-spec : {M : Type 1} → statement M
 plays-well-spec = tie.close (tie.spec spelled-by-requires has-unnamed-requires returns)

@@ -11,7 +11,7 @@ use Rattle.reader.proofs.read.Statement.{statement}
 use Rattle.reader.proofs.read.Tie as tie
 
 returns : tie.Need-returns
-returns c = sym (reads-noop (c .before .args .word) (c .if1 .taken))
+returns c = sym (reads-noop (c .before .args .rules) (c .before .args .word) (c .if1 .taken))
 
 code-in-requires : tie.Need-code-in-requires
 code-in-requires c κs = search needs
@@ -19,7 +19,8 @@ code-in-requires c κs = search needs
 returns-2 : tie.Need-returns-2
 returns-2 c =
     let w = c .before .before .before .args .word in
-    ap (λ (n : ℕ). judged (refusedWith w n) (spelledBy w)) (sym (form-10 w (omega (arith, c .if2 .taken, c .before .code-in .ensures)))) ∙ sym (reads-form w (c .before .before .if1 .left))
+    let rules = c .before .before .before .args .rules in
+    ap (λ (n : ℕ). judged (refusedWith w n) (spelledBy w)) (sym (form-10 rules w (omega (arith, c .if2 .taken, c .before .code-in .ensures)))) ∙ sym (reads-form rules w (c .before .before .if1 .left))
 
 has-unnamed-requires : tie.Need-has-unnamed-requires
 has-unnamed-requires c κs = search needs
@@ -30,15 +31,16 @@ finer-requires c κs = search needs
 returns-3 : tie.Need-returns-3
 returns-3 c =
     let w = c .before .before .before .before .before .before .args .word in
+    let rules = c .before .before .before .before .before .before .args .rules in
     let code : codeIn w < 13 = omega (arith, c .before .before .before .if2 .left, c .before .before .before .before .code-in .ensures) in
     let unnamed = sym (c .before .before .has-unnamed .ensures) ∙ c .before .if3 .taken in
-    ap Refused (c .finer .ensures ∙ sym (with-unnamed w code unnamed)) ∙ sym (refuses-unnamed w (c .before .before .before .before .before .if1 .left) code unnamed)
+    ap Refused (c .finer .ensures ∙ sym (with-unnamed rules w code unnamed)) ∙ sym (refuses-unnamed rules w (c .before .before .before .before .before .if1 .left) code unnamed)
 
 read-named-requires : tie.Need-read-named-requires
 read-named-requires c κs = (omega (arith, c .before .before .if2 .left, c .before .before .before .code-in .ensures), sym (c .before .has-unnamed .ensures) ∙ c .if3 .left)
 
 returns-4 : tie.Need-returns-4
-returns-4 c = c .read-named .ensures ∙ sym (reads-form (c .before .before .before .before .before .before .args .word) (c .before .before .before .before .before .if1 .left))
+returns-4 c = c .read-named .ensures ∙ sym (reads-form (c .before .before .before .before .before .before .args .rules) (c .before .before .before .before .before .before .args .word) (c .before .before .before .before .before .if1 .left))
 
 pub read-spec : {M : Type 1} → statement M
 read-spec =

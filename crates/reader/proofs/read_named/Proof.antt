@@ -98,47 +98,47 @@ judge-requires-13 : tie.Need-judge-requires-13
 judge-requires-13 c κs = search needs
 
 returns : tie.Need-returns
-returns c = c .judge .ensures ∙ read-as (c .before .before .before .before .before .args .word) 0 (c .before .before .before .before .code-in .ensures) (c .before .before .before .match .keys1) (omega (arith, c .before .before .before .before .before .pre .0)) (c .before .before .before .before .before .pre .1) (λ z. omega arith) (λ z. omega arith) (c .before .form .ensures ∙ ap (λ f. bodyForm 0 (Waveform f)) (c .before .before .spelled-by .ensures)) (ap Waveform (c .before .before .spelled-by .ensures))
+returns c = c .judge .ensures ∙ read-as (c .before .before .before .before .before .args .rules) (c .before .before .before .before .before .args .word) 0 (c .before .before .before .before .code-in .ensures) (c .before .before .before .match .keys1) (omega (arith, c .before .before .before .before .before .pre .0)) (c .before .before .before .before .before .pre .1) (λ z. omega arith) (λ z. omega arith) (c .before .form .ensures (c .before .before .before .before .before .args .rules) ∙ ap (λ f. bodyForm (c .before .before .before .before .before .args .rules) 0 (Waveform f)) (c .before .before .spelled-by .ensures)) (ap Waveform (c .before .before .spelled-by .ensures))
 
 returns-2 : tie.Need-returns-2
-returns-2 c = c .judge2 .ensures ∙ read-as (c .before .before .before .before .before .args .word) 1 (c .before .before .before .before .code-in .ensures) (c .before .before .before .match .keys2) (omega (arith, c .before .before .before .before .before .pre .0)) (c .before .before .before .before .before .pre .1) (λ z. omega arith) (λ z. omega arith) (c .before .form2 .ensures ∙ ap (λ f. bodyForm 0 (Marker f)) (c .before .before .spelled-by2 .ensures)) (ap Marker (c .before .before .spelled-by2 .ensures))
+returns-2 c = c .judge2 .ensures ∙ read-as (c .before .before .before .before .before .args .rules) (c .before .before .before .before .before .args .word) 1 (c .before .before .before .before .code-in .ensures) (c .before .before .before .match .keys2) (omega (arith, c .before .before .before .before .before .pre .0)) (c .before .before .before .before .before .pre .1) (λ z. omega arith) (λ z. omega arith) (c .before .form2 .ensures ∙ ap (λ f. bodyForm (c .before .before .before .before .before .args .rules) 0 (Marker f)) (c .before .before .spelled-by2 .ensures)) (ap Marker (c .before .before .spelled-by2 .ensures))
 
 returns-3 : tie.Need-returns-3
-returns-3 c = c .judge3 .ensures ∙ read-by (c .before .before .before .before .args .word) 2 (c .before .before .before .code-in .ensures) (c .before .before .match .keys3) (c .before .before .before .before .pre .1) (c .before .form-in .ensures ∙ coarse-named _ (omega (arith, c .before .before .before .before .pre .0)) (c .before .before .before .before .pre .1)) refl
+returns-3 c = c .judge3 .ensures ∙ read-by (c .before .before .before .before .args .rules) (c .before .before .before .before .args .word) 2 (c .before .before .before .code-in .ensures) (c .before .before .match .keys3) (c .before .before .before .before .pre .1) (c .before .form-in .ensures ∙ coarse-named _ _ (omega (arith, c .before .before .before .before .pre .0)) (c .before .before .before .before .pre .1)) refl
 
 returns-4 : tie.Need-returns-4
-returns-4 c = c .judge4 .ensures ∙ read-as (c .before .before .before .before .args .word) 3 (c .before .before .before .code-in .ensures) (c .before .before .match .keys4) (omega (arith, c .before .before .before .before .pre .0)) (c .before .before .before .before .pre .1) (λ z. omega arith) (λ z. omega arith) refl (ap LoadRepeat (c .before .spelled-by3 .ensures))
+returns-4 c = c .judge4 .ensures ∙ read-as (c .before .before .before .before .args .rules) (c .before .before .before .before .args .word) 3 (c .before .before .before .code-in .ensures) (c .before .before .match .keys4) (omega (arith, c .before .before .before .before .pre .0)) (c .before .before .before .before .pre .1) (λ z. omega arith) (λ z. omega arith) refl (ap LoadRepeat (c .before .spelled-by3 .ensures))
 
 returns-5 : tie.Need-returns-5
-returns-5 c = c .judge5 .ensures ∙ read-as (c .before .before .before .before .args .word) 4 (c .before .before .before .code-in .ensures) (c .before .before .match .keys5) (omega (arith, c .before .before .before .before .pre .0)) (c .before .before .before .before .pre .1) (λ z. omega arith) (λ z. omega arith) refl (ap Repeat (c .before .spelled-by4 .ensures))
+returns-5 c = c .judge5 .ensures ∙ read-as (c .before .before .before .before .args .rules) (c .before .before .before .before .args .word) 4 (c .before .before .before .code-in .ensures) (c .before .before .match .keys5) (omega (arith, c .before .before .before .before .pre .0)) (c .before .before .before .before .pre .1) (λ z. omega arith) (λ z. omega arith) refl (ap Repeat (c .before .spelled-by4 .ensures))
 
 returns-6 : tie.Need-returns-6
-returns-6 c = c .judge6 .ensures ∙ read-as (c .before .before .before .before .args .word) 5 (c .before .before .before .code-in .ensures) (c .before .before .match .keys6) (omega (arith, c .before .before .before .before .pre .0)) (c .before .before .before .before .pre .1) (λ z. omega arith) (λ z. omega arith) refl (ap Cmp (c .before .spelled-by5 .ensures))
+returns-6 c = c .judge6 .ensures ∙ read-as (c .before .before .before .before .args .rules) (c .before .before .before .before .args .word) 5 (c .before .before .before .code-in .ensures) (c .before .before .match .keys6) (omega (arith, c .before .before .before .before .pre .0)) (c .before .before .before .before .pre .1) (λ z. omega arith) (λ z. omega arith) refl (ap Cmp (c .before .spelled-by5 .ensures))
 
 returns-7 : tie.Need-returns-7
-returns-7 c = c .judge7 .ensures ∙ read-as (c .before .before .before .before .args .word) 6 (c .before .before .before .code-in .ensures) (c .before .before .match .keys7) (omega (arith, c .before .before .before .before .pre .0)) (c .before .before .before .before .pre .1) (λ z. omega arith) (λ z. omega arith) refl (ap Goto (c .before .spelled-by6 .ensures))
+returns-7 c = c .judge7 .ensures ∙ read-as (c .before .before .before .before .args .rules) (c .before .before .before .before .args .word) 6 (c .before .before .before .code-in .ensures) (c .before .before .match .keys7) (omega (arith, c .before .before .before .before .pre .0)) (c .before .before .before .before .pre .1) (λ z. omega arith) (λ z. omega arith) refl (ap Goto (c .before .spelled-by6 .ensures))
 
 returns-8 : tie.Need-returns-8
-returns-8 c = c .judge8 .ensures ∙ read-as (c .before .before .before .before .args .word) 7 (c .before .before .before .code-in .ensures) (c .before .before .match .keys8) (omega (arith, c .before .before .before .before .pre .0)) (c .before .before .before .before .pre .1) (λ z. omega arith) (λ z. omega arith) refl (ap Call (c .before .spelled-by7 .ensures))
+returns-8 c = c .judge8 .ensures ∙ read-as (c .before .before .before .before .args .rules) (c .before .before .before .before .args .word) 7 (c .before .before .before .code-in .ensures) (c .before .before .match .keys8) (omega (arith, c .before .before .before .before .pre .0)) (c .before .before .before .before .pre .1) (λ z. omega arith) (λ z. omega arith) refl (ap Call (c .before .spelled-by7 .ensures))
 
 returns-9 : tie.Need-returns-9
-returns-9 c = c .judge9 .ensures ∙ read-as (c .before .before .before .args .word) 8 (c .before .before .code-in .ensures) (c .before .match .keys9) (omega (arith, c .before .before .before .pre .0)) (c .before .before .before .pre .1) (λ z. omega arith) (λ z. omega arith) refl refl
+returns-9 c = c .judge9 .ensures ∙ read-as (c .before .before .before .args .rules) (c .before .before .before .args .word) 8 (c .before .before .code-in .ensures) (c .before .match .keys9) (omega (arith, c .before .before .before .pre .0)) (c .before .before .before .pre .1) (λ z. omega arith) (λ z. omega arith) refl refl
 
 returns-10 : tie.Need-returns-10
-returns-10 c = c .judge10 .ensures ∙ read-by (c .before .before .before .before .args .word) 9 (c .before .before .before .code-in .ensures) (c .before .before .match .keys10) (c .before .before .before .before .pre .1) (c .before .form-in2 .ensures ∙ coarse-named _ (omega (arith, c .before .before .before .before .pre .0)) (c .before .before .before .before .pre .1)) refl
+returns-10 c = c .judge10 .ensures ∙ read-by (c .before .before .before .before .args .rules) (c .before .before .before .before .args .word) 9 (c .before .before .before .code-in .ensures) (c .before .before .match .keys10) (c .before .before .before .before .pre .1) (c .before .form-in2 .ensures ∙ coarse-named _ _ (omega (arith, c .before .before .before .before .pre .0)) (c .before .before .before .before .pre .1)) refl
 
 returns-11 : tie.Need-returns-11
-returns-11 c = c .judge11 .ensures ∙ read-as (c .before .before .before .before .before .args .word) 10 (c .before .before .before .before .code-in .ensures) (c .before .before .before .match .keys11) (omega (arith, c .before .before .before .before .before .pre .0)) (c .before .before .before .before .before .pre .1) (λ z. omega arith) (λ z. omega arith) (c .before .form3 .ensures ∙ ap (λ f. bodyForm 0 (Modulator f)) (c .before .before .spelled-by8 .ensures)) (ap Modulator (c .before .before .spelled-by8 .ensures))
+returns-11 c = c .judge11 .ensures ∙ read-as (c .before .before .before .before .before .args .rules) (c .before .before .before .before .before .args .word) 10 (c .before .before .before .before .code-in .ensures) (c .before .before .before .match .keys11) (omega (arith, c .before .before .before .before .before .pre .0)) (c .before .before .before .before .before .pre .1) (λ z. omega arith) (λ z. omega arith) (c .before .form3 .ensures (c .before .before .before .before .before .args .rules) ∙ ap (λ f. bodyForm (c .before .before .before .before .before .args .rules) 0 (Modulator f)) (c .before .before .spelled-by8 .ensures)) (ap Modulator (c .before .before .spelled-by8 .ensures))
 
 returns-12 : tie.Need-returns-12
-returns-12 c = c .judge12 .ensures ∙ read-as (c .before .before .before .args .word) 11 (c .before .before .code-in .ensures) (c .before .match .keys12) (omega (arith, c .before .before .before .pre .0)) (c .before .before .before .pre .1) (λ z. omega arith) (λ z. omega arith) refl refl
+returns-12 c = c .judge12 .ensures ∙ read-as (c .before .before .before .args .rules) (c .before .before .before .args .word) 11 (c .before .before .code-in .ensures) (c .before .match .keys12) (omega (arith, c .before .before .before .pre .0)) (c .before .before .before .pre .1) (λ z. omega arith) (λ z. omega arith) refl refl
 
 returns-13 : tie.Need-returns-13
 returns-13 c =
     let e = c .before .before .before .before .code-in .ensures in
     let l = past 12 (c .before .before .before .match .rest) in
     let h = c .before .before .before .before .before .pre .0 in
-    c .judge13 .ensures ∙ read-by (c .before .before .before .before .before .args .word) 12 e (omega (arith, e, l, h)) (c .before .before .before .before .before .pre .1) (c .before .before .form-in3 .ensures ∙ coarse-named _ (omega (arith, c .before .before .before .before .before .pre .0)) (c .before .before .before .before .before .pre .1)) (ap Prefetch (c .before .spelled-by9 .ensures))
+    c .judge13 .ensures ∙ read-by (c .before .before .before .before .before .args .rules) (c .before .before .before .before .before .args .word) 12 e (omega (arith, e, l, h)) (c .before .before .before .before .before .pre .1) (c .before .before .form-in3 .ensures ∙ coarse-named _ _ (omega (arith, c .before .before .before .before .before .pre .0)) (c .before .before .before .before .before .pre .1)) (ap Prefetch (c .before .spelled-by9 .ensures))
 
 pub read-named-spec : {M : Type 1} → statement M
 read-named-spec =

@@ -9,7 +9,7 @@ plays-well-requires : tie.Need-plays-well-requires
 plays-well-requires c κs = search needs
 
 returns : tie.Need-returns
-returns c = sym (coarse-none (c .before .before .args .word) (c .before .plays-well .ensures (c .if1 .taken)))
+returns c = sym (coarse-none (c .before .before .args .rules) (c .before .before .args .word) (c .before .plays-well .ensures (c .before .before .args .rules) (c .if1 .taken)))
 
 form-in-requires : tie.Need-form-in-requires
 form-in-requires c κs = search needs

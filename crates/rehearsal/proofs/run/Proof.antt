@@ -17,12 +17,12 @@ refused-requires c κs = search needs
 returns : tie.Need-returns
 returns c =
     let a = c .before .before .before .before .before .before .args in
-    rw (rehearse-refused (a .budget) (fixedBy (now (a .words)) (now (a .messages)) (length (now (a .trace))) (record { wave = a .wave; triggers = a .triggers })) (c .before .before .input-refused .result) (c .before .before .input-refused .ensures) (c .before .if1 .taken)) (record { answer = c .refused .ensures; trace = refl })
+    rw (rehearse-refused (a .budget) (fixedBy (now (a .words)) (now (a .messages)) (length (now (a .trace))) (record { wave = a .wave; rules = a .rules; triggers = a .triggers })) (c .before .before .input-refused .result) (c .before .before .input-refused .ensures) (c .before .if1 .taken)) (record { answer = c .refused .ensures; trace = refl })
 
 from-fresh-requires : tie.Need-from-fresh-requires
 from-fresh-requires c κs =
     let a = c .before .before .before .before .before .before .args in
-    can-go (a .budget) (fixedBy (now (a .words)) (now (a .messages)) (length (now (a .trace))) (record { wave = a .wave; triggers = a .triggers })) (sym (c .before .before .input-refused .ensures) ∙ c .before .if1 .left)
+    can-go (a .budget) (fixedBy (now (a .words)) (now (a .messages)) (length (now (a .trace))) (record { wave = a .wave; rules = a .rules; triggers = a .triggers })) (sym (c .before .before .input-refused .ensures) ∙ c .before .if1 .left)
 
 same-length : tie.Need-same-length
 same-length c = search needs
@@ -30,7 +30,7 @@ same-length c = search needs
 returns-2 : tie.Need-returns-2
 returns-2 c =
     let a = c .before .before .before .before .before .before .before .before .before .args in
-    rw (rehearse-runs (a .budget) (fixedBy (now (a .words)) (now (a .messages)) (length (now (a .trace))) (record { wave = a .wave; triggers = a .triggers })) (sym (c .before .before .before .before .before .input-refused .ensures) ∙ c .before .before .before .before .if1 .left)) (c .before .before .from-fresh .ensures)
+    rw (rehearse-runs (a .budget) (fixedBy (now (a .words)) (now (a .messages)) (length (now (a .trace))) (record { wave = a .wave; rules = a .rules; triggers = a .triggers })) (sym (c .before .before .before .before .before .input-refused .ensures) ∙ c .before .before .before .before .if1 .left)) (c .before .before .from-fresh .ensures)
 
 pub run-spec : {M : Type 1} → statement M
 run-spec = tie.close (tie.spec input-refused-requires refused-requires returns from-fresh-requires same-length returns-2)

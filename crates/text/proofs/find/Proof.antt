@@ -1,7 +1,8 @@
 -- Byte by byte: the place that is looked for stays the same.
 use Prim.Native.Nat.{_-_}
-use mathlib.Core.Path.{_≡_, refl, _∙_}
+use mathlib.Core.Path.{_≡_, _∙_}
 use native.Mathlib.Omega.{arith}
+use borrow.Author.Needs.{needs}
 use lib.ListN.{length}
 use Rattle.text.specs.Cut.{placeOf}
 use Rattle.text.proofs.Cuts.{place-none, place-here, place-next}
@@ -14,8 +15,11 @@ Inv-loop text from x i₀ i = placeOf x i text ≡ placeOf x from text
 abbrev μ-loop : tie.MeasureT-loop
 μ-loop text from x i₀ i = length text - i
 
+stride-over-requires : tie.Need-stride-over-requires Inv-loop μ-loop
+stride-over-requires c κs = search needs
+
 loop-holds : tie.Need-loop-holds Inv-loop μ-loop
-loop-holds c = refl
+loop-holds c = c .stride-over .ensures
 
 shared-slice-read-if1 : tie.Need-shared-slice-read-if1 Inv-loop μ-loop
 shared-slice-read-if1 c = c .before .loop-test .taken
@@ -24,7 +28,7 @@ returns : tie.Need-returns Inv-loop μ-loop
 returns c = place-here _ _ _ (c .before .before .loop-test .taken) (c .if1 .taken) ∙ c .before .before .before .loop .inv
 
 add-i : tie.Need-add-i Inv-loop μ-loop
-add-i c = omega (arith, c .before .before .loop-test .taken, c .before .before .before .before .good)
+add-i c = omega (arith, c .before .before .loop-test .taken, c .before .before .before .before .before .before .good)
 
 loop-less : tie.Need-loop-less Inv-loop μ-loop
 loop-less c = omega (arith, c .before .before .loop-test .taken)
@@ -41,6 +45,7 @@ find-spec =
     (tie.spec
     Inv-loop
     μ-loop
+    stride-over-requires
     loop-holds
     shared-slice-read-if1
     returns

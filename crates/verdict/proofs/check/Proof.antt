@@ -17,7 +17,7 @@ input-refused-requires c κs = search needs
 returns : tie.Need-returns
 returns c =
     let s = c .before .before .before .before .args in
-    subst (λ (k : ℕ). CheckIs (s .wave .0) (s .words .now) (s .marks .now) (verdict (numbered k) 0) (s .marks .now)) (sym (c .before .input-refused .ensures))
+    subst (λ (k : ℕ). CheckIs (s .rules) (s .wave .0) (s .words .now) (s .marks .now) (verdict (numbered k) 0) (s .marks .now)) (sym (c .before .input-refused .ensures))
     (input (λ z. c .if1 .taken (c .before .input-refused .ensures ∙ z)))
 
 judge-words-requires : tie.Need-judge-words-requires
@@ -43,7 +43,7 @@ judge-requires c κs =
     record {
       fits = record { marks = omega arith; room = omega arith; limit = omega arith };
       some = g .0;
-      targets = targets (s .wave .0) (s .words .now) (g .0) (all-pass (s .wave .0) (s .words .now) (c .before .before .before .before .before .before .before .judge-words .ensures) (c .before .before .before .before .before .if2 .left));
+      targets = targets (s .rules) (s .wave .0) (s .words .now) (g .0) (all-pass (s .rules) (s .wave .0) (s .words .now) (c .before .before .before .before .before .before .before .judge-words .ensures) (c .before .before .before .before .before .if2 .left));
       exact = c .before .before .before .walk .ensures .marked .exact;
       returns = c .before .before .before .walk .ensures .returns;
       fault = c .before .before .before .walk .ensures .fault;
@@ -55,7 +55,7 @@ same-length c = search needs
 returns-3 : tie.Need-returns-3
 returns-3 c =
     let s = c .before .before .before .before .before .before .before .before .before .before .before .before .before .args in
-    flow (sym (c .before .before .before .before .before .before .before .before .before .before .input-refused .ensures) ∙ c .before .before .before .before .before .before .before .before .before .if1 .left) (all-pass (s .wave .0) (s .words .now) (c .before .before .before .before .before .before .before .before .judge-words .ensures) (c .before .before .before .before .before .before .if2 .left)) (c .before .before .before .before .walk .ensures .marked) (c .judge .ensures)
+    flow (sym (c .before .before .before .before .before .before .before .before .before .before .input-refused .ensures) ∙ c .before .before .before .before .before .before .before .before .before .if1 .left) (all-pass (s .rules) (s .wave .0) (s .words .now) (c .before .before .before .before .before .before .before .before .judge-words .ensures) (c .before .before .before .before .before .before .if2 .left)) (c .before .before .before .before .walk .ensures .marked) (c .judge .ensures)
 
 pub check-spec : {M : Type 1} → statement M
 check-spec =

@@ -12,10 +12,10 @@ use Rattle.verdict.proofs.judge_words.Statement.{statement}
 use Rattle.verdict.proofs.judge_words.Tie as tie
 
 abbrev Inv-loop : tie.InvT-loop
-Inv-loop words wave a₀ a = (a ≤ length words) × ((b : ℕ) → b < a → Passes (wave .0) words b)
+Inv-loop words wave rules a₀ a = (a ≤ length words) × ((b : ℕ) → b < a → Passes rules (wave .0) words b)
 
 abbrev μ-loop : tie.MeasureT-loop
-μ-loop words wave a₀ a = length words - a
+μ-loop words wave rules a₀ a = length words - a
 
 loop-holds : tie.Need-loop-holds Inv-loop μ-loop
 loop-holds c = (omega arith, λ b l. absurd (omega arith))
@@ -27,7 +27,7 @@ returns : tie.Need-returns Inv-loop μ-loop
 returns c =
     let l = c .before .before .before .before .loop in
     let s = c .before .before .before .before .before .before .args in
-    subst (λ (r : Refusal). WordsAre (s .wave .0) (s .words .now) (verdict r (l .a))) (sym (c .before .before .word-refusal .ensures))
+    subst (λ (r : Refusal). WordsAre (s .rules) (s .wave .0) (s .words .now) (verdict r (l .a))) (sym (c .before .before .word-refusal .ensures))
     (first (c .before .before .before .loop-test .taken) (l .inv .1) (λ z. c .if1 .taken (ap (λ (r : Refusal). r .number) (c .before .before .word-refusal .ensures) ∙ z)))
 
 add-a : tie.Need-add-a Inv-loop μ-loop
@@ -40,7 +40,7 @@ loop-again : tie.Need-loop-again Inv-loop μ-loop
 loop-again c =
     let l = c .before .before .before .before .loop in
     let s = c .before .before .before .before .before .before .args in
-    (omega arith, passes-more (s .wave .0) (s .words .now) (l .a) (l .inv .1) (sym (ap (λ (r : Refusal). r .number) (c .before .before .word-refusal .ensures)) ∙ c .if1 .left))
+    (omega arith, passes-more (s .rules) (s .wave .0) (s .words .now) (l .a) (l .inv .1) (sym (ap (λ (r : Refusal). r .number) (c .before .before .word-refusal .ensures)) ∙ c .if1 .left))
 
 returns-2 : tie.Need-returns-2 Inv-loop μ-loop
 returns-2 c =

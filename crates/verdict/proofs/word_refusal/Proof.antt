@@ -27,7 +27,7 @@ returns : tie.Need-returns
 returns c =
     let a = c .before .before .before .before .before .args in
     let w = getD (a .words .now) (a .a) 0 in
-    c .finer .ensures ∙ sym (refusal-at (a .wave .0) (a .words .now) (a .a) (sym (coarse-refuses w (c .before .before .coarse-of .ensures) (c .before .if1 .taken))))
+    c .finer .ensures ∙ sym (refusal-at (a .rules) (a .wave .0) (a .words .now) (a .a) (sym (coarse-refuses (a .rules) w (c .before .before .coarse-of .ensures) (c .before .if1 .taken))))
 
 add-stands-refused : tie.Need-add-stands-refused
 add-stands-refused c = search needs
@@ -43,7 +43,7 @@ returns-2 c =
     let a = c .before .before .before .before .before .before .args in
     let w = getD (a .words .now) (a .a) 0 in
     ap numbered (c .stands-refused .ensures ∙ ap (λ (i : Instruction). standsRefused (a .wave .0) (length (a .words .now)) (drop (a .a + 1) (a .words .now)) i) (c .before .instruction-in .ensures))
-    ∙ sym (refusal-at (a .wave .0) (a .words .now) (a .a) (sym (coarse-accepts w (c .before .before .before .coarse-of .ensures) (c .before .before .if1 .left))))
+    ∙ sym (refusal-at (a .rules) (a .wave .0) (a .words .now) (a .a) (sym (coarse-accepts (a .rules) w (c .before .before .before .coarse-of .ensures) (c .before .before .if1 .left))))
 
 pub word-refusal-spec : {M : Type 1} → statement M
 word-refusal-spec =

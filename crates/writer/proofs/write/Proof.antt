@@ -14,12 +14,12 @@ word-of-requires c κs = search needs
 returns : tie.Need-returns
 returns c =
     let asked = c .before .before .asked .ensures in
-    rw (c .before .word-of .ensures, asked) (sym (written-good _ (sym asked ∙ c .if1 .taken)))
+    rw (c .before .word-of .ensures, asked) (sym (written-good _ _ (sym asked ∙ c .if1 .taken)))
 
 returns-2 : tie.Need-returns-2
 returns-2 c =
     let asked = c .before .before .asked .ensures in
-    rw asked (sym (written-bad _ (λ e. c .if1 .left (asked ∙ e))))
+    rw asked (sym (written-bad _ _ (λ e. c .if1 .left (asked ∙ e))))
 
 pub write-spec : {M : Type 1} → statement M
 write-spec = tie.close (tie.spec asked-requires word-of-requires returns returns-2)

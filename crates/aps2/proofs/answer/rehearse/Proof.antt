@@ -17,7 +17,7 @@ slice-reshare-prefix-tell : tie.Need-slice-reshare-prefix-tell
 slice-reshare-prefix-tell c = search needs
 
 slice-aggregate-tell : tie.Need-slice-aggregate-tell
-slice-aggregate-tell c = sym (length-take-le (c .before .before .before .before .run .result .state .core .sent) (c .before .before .before .before .run .last .1 .1 .1 .1 .0) (omega (arith, c .before .if1 .taken, c .before .before .before .before .run .kept .1 .1 .1 .1 .0)))
+slice-aggregate-tell c = sym (length-take-le (c .before .before .before .before .run .result .state .core .sent) (c .before .before .before .before .run .last .1 .1 .1 .1 .1 .0) (omega (arith, c .before .if1 .taken, c .before .before .before .before .run .kept .1 .1 .1 .1 .1 .0)))
 
 tell-requires : tie.Need-tell-requires
 tell-requires c κs = search needs

@@ -37,7 +37,7 @@ array-share-prefix-words : tie.Need-array-share-prefix-words
 array-share-prefix-words c = search needs
 
 slice-aggregate-judge : tie.Need-slice-aggregate-judge
-slice-aggregate-judge c = sym (length-take-le (c .before .before .before .before .before .before .before .before .words-of .result .count) (c .before .before .before .before .before .before .before .before .words-of .last .1 .1 .0) (omega (arith, c .before .if3 .taken, c .before .before .before .before .before .before .before .before .words-of .kept .1 .1 .0)))
+slice-aggregate-judge c = sym (length-take-le (c .before .before .before .before .before .before .before .before .words-of .result .count) (c .before .before .before .before .before .before .before .before .words-of .last .1 .1 .1 .0) (omega (arith, c .before .if3 .taken, c .before .before .before .before .before .before .before .before .words-of .kept .1 .1 .1 .0)))
 
 judge-requires : tie.Need-judge-requires
 judge-requires c κs = search needs

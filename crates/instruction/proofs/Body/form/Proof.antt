@@ -64,13 +64,13 @@ enum-told-10 : tie.Need-enum-told-10
 enum-told-10 c = search needs
 
 returns : tie.Need-returns
-returns c = rw (c .before .before .self .given .1) (c .form .ensures)
+returns c = rw (c .before .before .self .given .1) (c .form .ensures (c .before .before .before .before .args .rules))
 
 returns-2 : tie.Need-returns-2
 returns-2 c = rw (c .before .before .self2 .given .1) (c .form2 .ensures)
 
 returns-3 : tie.Need-returns-3
-returns-3 c = rw (c .before .enum-told .given .1) (c .wait-form .ensures)
+returns-3 c = rw (c .before .enum-told .given .1) (c .wait-form .ensures (c .before .before .before .args .rules))
 
 returns-4 : tie.Need-returns-4
 returns-4 c = rw (c .enum-told2 .given .1)
@@ -91,16 +91,16 @@ returns-9 : tie.Need-returns-9
 returns-9 c = rw (c .enum-told7 .given .1)
 
 returns-10 : tie.Need-returns-10
-returns-10 c = rw (c .before .enum-told8 .given .1) (c .wait-form2 .ensures)
+returns-10 c = rw (c .before .enum-told8 .given .1) (c .wait-form2 .ensures (c .before .before .before .args .rules))
 
 returns-11 : tie.Need-returns-11
-returns-11 c = rw (c .before .before .self3 .given .1) (c .form3 .ensures)
+returns-11 c = rw (c .before .before .self3 .given .1) (c .form3 .ensures (c .before .before .before .before .args .rules))
 
 returns-12 : tie.Need-returns-12
 returns-12 c = rw (c .enum-told9 .given .1)
 
 returns-13 : tie.Need-returns-13
-returns-13 c = rw (c .before .before .self4 .given .1) (c .prefetch-form .ensures)
+returns-13 c = rw (c .before .before .self4 .given .1) (c .prefetch-form .ensures (c .before .before .before .before .args .rules))
 
 returns-14 : tie.Need-returns-14
 returns-14 c = rw (c .enum-told10 .given .1)

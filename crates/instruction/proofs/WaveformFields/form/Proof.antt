@@ -8,16 +8,16 @@ play-form-requires : tie.Need-play-form-requires
 play-form-requires c κs = search needs
 
 returns : tie.Need-returns
-returns c = rw (c .before .if1 .taken) (c .play-form .ensures)
+returns c rules = rw (c .before .if1 .taken) (c .play-form .ensures)
 
 returns-2 : tie.Need-returns-2
-returns-2 c = rw (ne-eqb _ _ (c .before .if1 .left), c .if2 .taken)
+returns-2 c rules = rw (ne-eqb _ _ (c .before .if1 .left), c .if2 .taken)
 
 returns-3 : tie.Need-returns-3
-returns-3 c = rw (ne-eqb _ _ (c .before .before .if1 .left), c .before .if2 .left, c .if3 .taken)
+returns-3 c rules = rw (ne-eqb _ _ (c .before .before .if1 .left), c .before .if2 .left, c .if3 .taken)
 
 returns-4 : tie.Need-returns-4
-returns-4 c = rw (ne-eqb _ _ (c .before .before .if1 .left), c .before .if2 .left, c .if3 .left)
+returns-4 c rules = rw (ne-eqb _ _ (c .before .before .if1 .left), c .before .if2 .left, c .if3 .left)
 
 pub form-spec : {M : Type 1} → statement M
 form-spec = tie.close (tie.spec play-form-requires returns returns-2 returns-3 returns-4)

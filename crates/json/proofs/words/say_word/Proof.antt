@@ -22,7 +22,7 @@ array-share-prefix-line : tie.Need-array-share-prefix-line
 array-share-prefix-line c = search needs
 
 slice-aggregate-say-line : tie.Need-slice-aggregate-say-line
-slice-aggregate-say-line c = sym (length-take-le (c .before .before .before .line2 .result) (c .before .before .before .line2 .last .1 .1 .0) (omega (arith, c .before .if1 .taken, c .before .before .before .line2 .kept .1 .1 .0)))
+slice-aggregate-say-line c = sym (length-take-le (c .before .before .before .line2 .result) (c .before .before .before .line2 .last .1 .1 .1 .0) (omega (arith, c .before .if1 .taken, c .before .before .before .line2 .kept .1 .1 .1 .0)))
 
 say-line-requires : tie.Need-say-line-requires
 say-line-requires c κs = search needs

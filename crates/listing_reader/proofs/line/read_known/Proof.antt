@@ -21,13 +21,13 @@ refused-requires : tie.Need-refused-requires
 refused-requires c κs = search needs
 
 returns : tie.Need-returns
-returns c = c .refused .ensures ∙ gathered-61 (c .before .before .before .before .before .before .before .args .row) (c .before .before .before .before .before .before .before .args .address) (c .before .before .before .before .before .before .before .args .a) (c .before .before .before .before .before .before .before .pre .1) (fieldsAfter (c .before .before .before .before .before .before .before .args .from) (c .before .before .before .before .before .before .before .args .line .now)) (c .before .before .before .before .before .field-count .ensures) (c .before .before .before .read-numbers .ensures) (not-true _ (c .before .if1 .taken))
+returns c = c .refused .ensures ∙ gathered-61 (c .before .before .before .before .before .before .before .args .rules) (c .before .before .before .before .before .before .before .args .row) (c .before .before .before .before .before .before .before .args .address) (c .before .before .before .before .before .before .before .args .a) (c .before .before .before .before .before .before .before .pre .1) (fieldsAfter (c .before .before .before .before .before .before .before .args .from) (c .before .before .before .before .before .before .before .args .line .now)) (c .before .before .before .before .before .field-count .ensures) (c .before .before .before .read-numbers .ensures) (not-true _ (c .before .if1 .taken))
 
 refused-requires-2 : tie.Need-refused-requires-2
 refused-requires-2 c κs = search needs
 
 returns-2 : tie.Need-returns-2
-returns-2 c = c .refused2 .ensures ∙ gathered-62 (c .before .before .before .before .before .before .before .before .args .row) (c .before .before .before .before .before .before .before .before .args .address) (c .before .before .before .before .before .before .before .before .args .a) (c .before .before .before .before .before .before .before .before .pre .1) (fieldsAfter (c .before .before .before .before .before .before .before .before .args .from) (c .before .before .before .before .before .before .before .before .args .line .now)) (c .before .before .before .before .before .before .field-count .ensures) (c .before .before .before .before .read-numbers .ensures) (not-false _ (c .before .before .if1 .left)) (c .before .if2 .taken)
+returns-2 c = c .refused2 .ensures ∙ gathered-62 (c .before .before .before .before .before .before .before .before .args .rules) (c .before .before .before .before .before .before .before .before .args .row) (c .before .before .before .before .before .before .before .before .args .address) (c .before .before .before .before .before .before .before .before .args .a) (c .before .before .before .before .before .before .before .before .pre .1) (fieldsAfter (c .before .before .before .before .before .before .before .before .args .from) (c .before .before .before .before .before .before .before .before .args .line .now)) (c .before .before .before .before .before .before .field-count .ensures) (c .before .before .before .before .read-numbers .ensures) (not-false _ (c .before .before .if1 .left)) (c .before .if2 .taken)
 
 array-read-body-of : tie.Need-array-read-body-of
 array-read-body-of c = search needs
@@ -44,17 +44,17 @@ array-read-body-of-4 c = search needs
 body-of-requires : tie.Need-body-of-requires
 body-of-requires c κs = search needs
 
-array-read-t15 : tie.Need-array-read-t15
-array-read-t15 c = search needs
+array-read-t17 : tie.Need-array-read-t17
+array-read-t17 c = search needs
 
-array-read-t24 : tie.Need-array-read-t24
-array-read-t24 c = search needs
+array-read-t26 : tie.Need-array-read-t26
+array-read-t26 c = search needs
 
 write-requires : tie.Need-write-requires
 write-requires c κs = search needs
 
 returns-3 : tie.Need-returns-3
-returns-3 c = c .write .ensures ∙ gathered-written (c .before .before .before .before .before .before .before .before .before .args .row) (c .before .before .before .before .before .before .before .before .before .args .address) (c .before .before .before .before .before .before .before .before .before .args .a) (c .before .before .before .before .before .before .before .before .before .pre .1) (fieldsAfter (c .before .before .before .before .before .before .before .before .before .args .from) (c .before .before .before .before .before .before .before .before .before .args .line .now)) (c .before .before .before .before .before .before .before .field-count .ensures) (c .before .before .before .before .before .read-numbers .ensures) (not-false _ (c .before .before .before .if1 .left)) (c .before .before .if2 .left) (c .before .body-of .ensures)
+returns-3 c = c .write .ensures ∙ gathered-written (c .before .before .before .before .before .before .before .before .before .args .rules) (c .before .before .before .before .before .before .before .before .before .args .row) (c .before .before .before .before .before .before .before .before .before .args .address) (c .before .before .before .before .before .before .before .before .before .args .a) (c .before .before .before .before .before .before .before .before .before .pre .1) (fieldsAfter (c .before .before .before .before .before .before .before .before .before .args .from) (c .before .before .before .before .before .before .before .before .before .args .line .now)) (c .before .before .before .before .before .before .before .field-count .ensures) (c .before .before .before .before .before .read-numbers .ensures) (not-false _ (c .before .before .before .if1 .left)) (c .before .before .if2 .left) (c .before .body-of .ensures)
 
 pub read-known-spec : {M : Type 1} → statement M
 read-known-spec =
@@ -72,7 +72,7 @@ read-known-spec =
     array-read-body-of-3
     array-read-body-of-4
     body-of-requires
-    array-read-t15
-    array-read-t24
+    array-read-t17
+    array-read-t26
     write-requires
     returns-3)

@@ -19,7 +19,7 @@ array-share-prefix-header : tie.Need-array-share-prefix-header
 array-share-prefix-header c = search needs
 
 slice-aggregate-say : tie.Need-slice-aggregate-say
-slice-aggregate-say c = sym (length-take-le (c .before .before .before .list .result) (c .before .before .before .list .last .1 .0) (omega (arith, c .before .if1 .taken, c .before .before .before .list .kept .1 .0)))
+slice-aggregate-say c = sym (length-take-le (c .before .before .before .list .result) (c .before .before .before .list .last .1 .1 .0) (omega (arith, c .before .if1 .taken, c .before .before .before .list .kept .1 .1 .0)))
 
 say-requires : tie.Need-say-requires
 say-requires c κs = search needs

@@ -7,10 +7,10 @@ use Rattle.report.proofs.words.say_words.Statement.{statement}
 use Rattle.report.proofs.words.say_words.Tie as tie
 
 abbrev Inv-loop : tie.InvT-loop
-Inv-loop words a₀ a = Unit {0}
+Inv-loop words rules a₀ a = Unit {0}
 
 abbrev μ-loop : tie.MeasureT-loop
-μ-loop words a₀ a = length words - a
+μ-loop words rules a₀ a = length words - a
 
 loop-holds : tie.Need-loop-holds Inv-loop μ-loop
 loop-holds c = tt
