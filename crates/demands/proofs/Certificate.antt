@@ -3,7 +3,7 @@
 use mathlib.Core.Path.{_≡_, refl, sym, subst}
 use mathlib.Core.Bool.{Bool, true, false, not, _||_, _&&_}
 use mathlib.Core.List.{List, [], _∷_}
-use Prim.Native.Nat.{ℕ, _+_, _-_, _≤_, _<_}
+use Prim.Native.Nat.{ℕ, _+_, _≤_, _<_}
 use native.Mathlib.Omega.{arith}
 use borrow.Author.Tests.{eqb-true, eq-eqb, leb-true, lt-ltb, le-ltb}
 use lib.Dec.{eqb, ltb, leb}
@@ -13,6 +13,7 @@ use Rattle.flow.specs.declared.Move.{Move}
 use Rattle.flow.specs.declared.Move.the-variants.{Other, Compare, Jump, Enter, Leave, Loop}
 use Rattle.flow.specs.Walk.{Fault, past, full, empty}
 use Rattle.flow.proofs.Rules.{Onward, plain-on, cmp-on, goto-on, call-on, return-on, repeat-on, Leaps, goto-to, call-to, repeat-to, Walked, begin, on, over, back, walked}
+use Rattle.reader.proofs.Below.{both}
 
 pub record Place : Type 0 where
   pub address : ℕ
@@ -38,10 +39,6 @@ isIn p (q ∷ ps) = same p q || isIn p ps
 abbrev all : (Place → Bool) → List Place → Bool
 all test [] = true
 all test (p ∷ ps) = test p && all test ps
-
-both : (a b : Bool) → (a && b) ≡ true → (a ≡ true) × (b ≡ true)
-both true b e = (refl, e)
-both false b e = (e, cc)
 
 same-bool : (b c : Bool) → sameBool b c ≡ true → b ≡ c
 same-bool true c e = sym e

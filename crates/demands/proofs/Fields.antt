@@ -14,6 +14,7 @@ use lib.ListN.{length}
 use lib.Pow.{pow-pos, pow-mono, pow-add, split, ones-lt}
 use Rattle.instruction.specs.Bits.{span, held, laid, fits, heldIn, laidOnto, fitAfter}
 use Rattle.instruction.specs.declared.Field.{Field}
+use Rattle.named.specs.Named.{maskOf}
 
 -- the fields go down from bit k, and do not meet
 pub data Down : ℕ → List Field → Type 0 where
@@ -82,7 +83,7 @@ held-fit w (f ∷ fs) = some (mod-lt (w / 2 ^ f .low) (pow-pos (f .width))) (hel
 
 -- ---- the test and the fact
 
-both : {a b : Bool} → (a && b) ≡ true → (a ≡ true) × (b ≡ true)
+pub both : {a b : Bool} → (a && b) ≡ true → (a ≡ true) × (b ≡ true)
 both {a = true} e = (refl, e)
 both {a = false} e = (e, cc)
 
@@ -100,11 +101,6 @@ fit-test none = refl
 fit-test (some {f = f} {v = v} t g) = rw (lt-ltb v (span f) t) (fit-test g)
 
 -- ---- masks
-
--- ones at the bits of the fields, and nowhere else
-abbrev pub maskOf : List Field → ℕ
-maskOf [] = 0
-maskOf (f ∷ fs) = (span f - 1) * 2 ^ f .low + maskOf fs
 
 mask-lt : {k : ℕ} {fs : List Field} → Down k fs → maskOf fs < 2 ^ k
 mask-lt {k} none = pow-pos k

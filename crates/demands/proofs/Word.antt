@@ -21,9 +21,10 @@ use Rattle.instruction.specs.declared.Rules.{Rules}
 use Rattle.instruction.specs.declared.Body.{Body}
 use Rattle.instruction.specs.declared.Body.the-variants.{Waveform, Marker, Wait, LoadRepeat, Repeat, Cmp, Goto, Call, Return, Sync, Modulator, LoadCmp, Prefetch, Noop}
 use Rattle.instruction.proofs.Laws.{fits-noop, fits-other, word-noop, word-other}
+use Rattle.named.specs.Named.{fieldsOf, namedBits}
 use Rattle.reader.specs.Reading.{someBelow, notItsOp, formIn, highestStray, readingOf}
 use Rattle.reader.specs.declared.Reading.the-variants.{Accepted, Refused}
-use Rattle.reader.specs.Masks.{namedBits, hasUnnamed}
+use Rattle.reader.specs.Masks.{hasUnnamed}
 use Rattle.reader.proofs.Below.{none-below}
 use Rattle.reader.proofs.Masks.{no-stray, all-left}
 use Rattle.reader.proofs.Strays.{kind-tells}
@@ -32,35 +33,24 @@ use Rattle.writer.specs.declared.Written.{Written}
 use Rattle.writer.specs.Writing.{askedOf, writtenOf}
 use Rattle.writer.proofs.Laws.{asked-wide, asked-fitting, written-good}
 use Rattle.demands.specs.Word.{zeroed, ReadWrite, WriteRead}
-use Rattle.demands.proofs.Fields.{Down, Fit, none, some, sumOf, maskOf, goDown, onto-sum, held-again, join, held-fit, fit-of, fit-test, and-sum, down-of}
+use Rattle.demands.proofs.Fields.{Down, Fit, none, some, sumOf, both, goDown, onto-sum, held-again, join, held-fit, fit-of, fit-test, and-sum, down-of}
 
 -- ---- the fields of a word
 
-abbrev fieldsOf : ℕ → List Field
-fieldsOf code = opCode ∷ engineSelect ∷ writeFlag ∷ payloadOf code
+-- one computed test: the fields of every op code go down from the top
+table-goes-down : someBelow 16 (λ code. not (goDown 64 (fieldsOf code))) ≡ false
+table-goes-down = refl
 
--- one computed test: the fields of every op code go down from the top, and its mask is theirs
-table-fits : someBelow 16 (λ code. not (goDown 64 (fieldsOf code) && eqb (getD namedBits code 0) (maskOf (fieldsOf code)))) ≡ false
-unfolding namedBits
-table-fits = refl
-
-both : {a b : Bool} → (a && b) ≡ true → (a ≡ true) × (b ≡ true)
-both {a = true} e = (refl, e)
-both {a = false} e = (e, cc)
-
-row : (code : ℕ) → code < 16 → Down 64 (fieldsOf code) × (getD namedBits code 0 ≡ maskOf (fieldsOf code))
-row code h =
-    let t = both {a = goDown 64 (fieldsOf code)} (not-false _ (none-below 16 (λ c. not (goDown 64 (fieldsOf c) && eqb (getD namedBits c 0) (maskOf (fieldsOf c)))) table-fits code h)) in
-    (down-of 64 (fieldsOf code) (t .0), eqb-true _ _ (t .1))
+goes-down : (code : ℕ) → code < 16 → Down 64 (fieldsOf code)
+goes-down code h = down-of 64 (fieldsOf code) (not-false _ (none-below 16 (λ c. not (goDown 64 (fieldsOf c))) table-goes-down code h))
 
 code-small : (w : ℕ) → codeIn w < 16
 code-small w = omega arith
 
 -- what the mask of its op code leaves of a word is the sum of its fields
-left-sum : (w : ℕ) → bitAnd w (getD namedBits (codeIn w) 0) ≡ sumOf (fieldsOf (codeIn w)) (heldIn w (fieldsOf (codeIn w)))
-left-sum w =
-    let r = row (codeIn w) (code-small w) in
-    ap (bitAnd w) (r .1) ∙ and-sum w (r .0)
+left-sum : (w : ℕ) → bitAnd w (namedBits (codeIn w)) ≡ sumOf (fieldsOf (codeIn w)) (heldIn w (fieldsOf (codeIn w)))
+unfolding namedBits
+left-sum w = and-sum w (goes-down (codeIn w) (code-small w))
 
 -- a word of named bits alone is the sum of its fields, and the other way
 word-sum : (w : ℕ) → w < 2 ^ 64 → hasUnnamed w ≡ false → sumOf (fieldsOf (codeIn w)) (heldIn w (fieldsOf (codeIn w))) ≡ w
@@ -166,7 +156,7 @@ other-back rules i n t z =
     let h = fit-of true (engineSelect ∷ writeFlag ∷ []) (i .engine ∷ i .write ∷ []) refl (u .0) .1 in
     let x = back b n (u .1) in
     let c16 : c < 16 = omega (arith, x .code) in
-    let hs : heldIn w (fieldsOf c) ≡ vs = ap (λ (v : ℕ). heldIn v (fieldsOf c)) (word-is i n) ∙ held-again (row c c16 .0) (some c16 (join h (x .fit))) in
+    let hs : heldIn w (fieldsOf c) ≡ vs = ap (λ (v : ℕ). heldIn v (fieldsOf c)) (word-is i n) ∙ held-again (goes-down c c16) (some c16 (join h (x .fit))) in
     let code : codeIn w ≡ c = ap (λ (l : List ℕ). getD l 0 0) hs in
     let payload : heldIn w (payloadOf c) ≡ valuesOf b = ap (λ (l : List ℕ). drop 3 l) hs in
     let spelled : spelledBy w ≡ i = (λ j. record {

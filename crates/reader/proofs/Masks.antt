@@ -1,4 +1,4 @@
--- The table of sixteen masks is exactly the bits that the fields name, and a word is what its mask leaves of it just where no bit is set that is not named.
+-- The mask that is worked out for an op code is exactly the bits that its fields name, and a word is what its mask leaves of it just where no bit is set that is not named.
 -- Assumes nothing.
 use mathlib.Core.Path.{_≡_, refl, sym, ap, ap₂, subst, _∙_}
 use mathlib.Core.Bool.{Bool, true, false, not, _&&_}
@@ -11,17 +11,17 @@ use borrow.Author.Tests.{eqb-true, eqb-false}
 use lib.Arith.{bin-ind}
 use lib.Bits.{bitAnd, and-shr, and-step, and-zero-l, and-zero-r, and-mod, and-le-l}
 use lib.Dec.{eqb}
-use lib.ListN.{getD}
 use lib.Count.{leadingZeros, leading-top}
 use lib.Pow.{shr-shr, pow-mono, pow-pos}
 use Rattle.instruction.specs.Bits.{isSet}
 use Rattle.instruction.specs.Table.{payloadOf}
 use Rattle.instruction.specs.Word.{codeIn}
-use Rattle.reader.specs.Masks.{namedBits, hasUnnamed}
+use Rattle.named.specs.Named.{payloadBits, namedBits}
+use Rattle.reader.specs.Masks.{hasUnnamed}
 use Rattle.reader.specs.Reading.{someBelow, isNamed, isStray, isAbove, highestStray}
 use Rattle.reader.proofs.Below.{Highest, none-below, all-below, one-below, highest-is, one-highest, highest-none}
 
--- ---- the table
+-- ---- the mask of an op code
 
 abbrev differ : Bool → Bool → Bool
 differ true b = not b
@@ -32,29 +32,29 @@ same true true e = refl
 same true false e = e
 same false b e = sym e
 
--- one computed test over the whole table: no op code, and no bit, at which mask and fields differ
-no-difference : someBelow 16 (λ code. someBelow 64 (λ k. differ (isSet k (getD namedBits code 0)) (isNamed code k))) ≡ false
+-- one computed test over the whole table of fields: no op code, and no bit, at which mask and fields differ
+no-difference : someBelow 16 (λ code. someBelow 64 (λ k. differ (isSet k (namedBits code)) (isNamed code k))) ≡ false
 unfolding namedBits
 no-difference = refl
 
 -- a mask has exactly the bits that the fields of its op code name
-pub table-exact : (code k : ℕ) → code < 16 → k < 64 → isSet k (getD namedBits code 0) ≡ isNamed code k
+pub table-exact : (code k : ℕ) → code < 16 → k < 64 → isSet k (namedBits code) ≡ isNamed code k
 table-exact code k hc hk =
-    same (isSet k (getD namedBits code 0)) (isNamed code k)
-    (none-below 64 (λ j. differ (isSet j (getD namedBits code 0)) (isNamed code j))
-    (none-below 16 (λ c. someBelow 64 (λ j. differ (isSet j (getD namedBits c 0)) (isNamed c j))) no-difference code hc)
+    same (isSet k (namedBits code)) (isNamed code k)
+    (none-below 64 (λ j. differ (isSet j (namedBits code)) (isNamed code j))
+    (none-below 16 (λ c. someBelow 64 (λ j. differ (isSet j (namedBits c)) (isNamed c j))) no-difference code hc)
     k hk)
 
--- one computed test again: a bit lies above every field just where the mask's payload has none from it on
-no-other-above : someBelow 16 (λ code. someBelow 64 (λ k. differ (eqb (getD namedBits code 0 % 2 ^ 56 / 2 ^ k) 0) (isAbove k (payloadOf code)))) ≡ false
-unfolding namedBits
+-- one computed test again: a bit lies above every field just where the payload's mask has none from it on
+no-other-above : someBelow 16 (λ code. someBelow 64 (λ k. differ (eqb (payloadBits code / 2 ^ k) 0) (isAbove k (payloadOf code)))) ≡ false
+unfolding payloadBits
 no-other-above = refl
 
-pub above-exact : (code k : ℕ) → code < 16 → k < 64 → eqb (getD namedBits code 0 % 2 ^ 56 / 2 ^ k) 0 ≡ isAbove k (payloadOf code)
+pub above-exact : (code k : ℕ) → code < 16 → k < 64 → eqb (payloadBits code / 2 ^ k) 0 ≡ isAbove k (payloadOf code)
 above-exact code k hc hk =
-    same (eqb (getD namedBits code 0 % 2 ^ 56 / 2 ^ k) 0) (isAbove k (payloadOf code))
-    (none-below 64 (λ j. differ (eqb (getD namedBits code 0 % 2 ^ 56 / 2 ^ j) 0) (isAbove j (payloadOf code)))
-    (none-below 16 (λ c. someBelow 64 (λ j. differ (eqb (getD namedBits c 0 % 2 ^ 56 / 2 ^ j) 0) (isAbove j (payloadOf c)))) no-other-above code hc)
+    same (eqb (payloadBits code / 2 ^ k) 0) (isAbove k (payloadOf code))
+    (none-below 64 (λ j. differ (eqb (payloadBits code / 2 ^ j) 0) (isAbove j (payloadOf code)))
+    (none-below 16 (λ c. someBelow 64 (λ j. differ (eqb (payloadBits c / 2 ^ j) 0) (isAbove j (payloadOf c)))) no-other-above code hc)
     k hk)
 
 -- ---- single bits of what a mask leaves
@@ -98,7 +98,7 @@ clear k w e = rw e
 -- ---- a bit that is not named, by the mask
 
 abbrev pub maskIn : ℕ → ℕ
-maskIn w = getD namedBits (codeIn w) 0
+maskIn w = namedBits (codeIn w)
 
 named-passes : (a b : Bool) → b ≡ true → (a && not b) ≡ false
 named-passes true b e = rw e

@@ -1,8 +1,9 @@
--- The code's table of sixteen masks, and what it knows of a word on the way. Not for a reader of the contracts: proofs/Masks.antt shows that it is exactly the bits that the fields name.
+-- What the code knows of a word on the way to its reading: whether a bit is set that is not named, and a number for every such bit until it is looked for.
+-- Not for a reader of the contracts.
 use Prim.Native.Nat.{ℕ, _≤_}
 use mathlib.Core.Path.{_≡_}
 use mathlib.Core.Bool.{Bool}
-use mathlib.Core.List.{List, [], _∷_}
+use mathlib.Core.List.{[]}
 use lib.Dec.{eqb}
 use Rattle.instruction.specs.Bits.{pick, _gives_else_}
 use Rattle.instruction.specs.Table.{wordBits, codeOf, lastCode, noopWord, waveformOf, markerOf, modulatorOf}
@@ -15,26 +16,6 @@ use Rattle.instruction.specs.declared.Instruction.{Instruction}
 use Rattle.reader.specs.Reading.{someBelow, isStray, noSuchCode, kindOf, notItsOp, highestStray}
 use Rattle.reader.specs.declared.Reading.{Reading}
 use Rattle.reader.specs.declared.Reading.the-variants.{Accepted, Refused}
-
-unfoldable pub namedBits : List ℕ
-namedBits =
-    0xFD00_FFFF_FFFF_FFFF
-    ∷ 0xFD00_C01F_FFFF_FFFF
-    ∷ 0xFD00_C000_0000_0000
-    ∷ 0xFD00_0000_0000_FFFF
-    ∷ 0xFD00_0000_03FF_FFFF
-    ∷ 0xFD00_0000_0000_03FF
-    ∷ 0xFD00_0000_03FF_FFFF
-    ∷ 0xFD00_0000_03FF_FFFF
-    ∷ 0xFDFF_FFFF_FFFF_FFFF
-    ∷ 0xFD00_C000_0000_0000
-    ∷ 0xFD00_EF00_FFFF_FFFF
-    ∷ 0xFDFF_FFFF_FFFF_FFFF
-    ∷ 0xFD00_0000_03FF_FFFF
-    ∷ 0xFD00_0000_0000_0000
-    ∷ 0xFD00_0000_0000_0000
-    ∷ 0xFD00_0000_0000_0000
-    ∷ []
 
 -- a bit is set that is not named, of whatever kind
 unfoldable pub hasUnnamed : ℕ → Bool

@@ -8,8 +8,7 @@ ghost use Rattle.instruction.specs.Table.{wordBits, engineSelect, writeFlag};
 ghost use Rattle.instruction.specs.Form.{numbered};
 ghost use Rattle.instruction.specs.Word.{spelledBy};
 ghost use Rattle.instruction.specs.declared.Rules.{Rules};
-ghost use lib.ListN.{getD};
-ghost use Rattle.reader.specs.Masks.{namedBits, hasUnnamed, coarseIn, coarseOf, finer, judgedBy, IsWaveform, IsMarker, IsModulator, IsFlow, IsCode};
+ghost use Rattle.reader.specs.Masks.{hasUnnamed, coarseIn, coarseOf, finer, judgedBy, IsWaveform, IsMarker, IsModulator, IsFlow, IsCode};
 ghost use Rattle.reader.specs.Reading.{refusalOf, kindOf, highestStray, notItsOp, formIn, refusedWith, instructionIn, judged, readingOf};
 use instruction::Body;
 use instruction::Comparison;
@@ -24,6 +23,8 @@ use instruction::Repeats;
 use instruction::Rules;
 use instruction::WaveformFields;
 use instruction::WordAddress;
+use named::named_bits;
+use named::payload_bits;
 
 pub enum Reading {
     Accepted(Instruction),
@@ -52,50 +53,6 @@ impl Reading {
             Reading::Accepted(_) => Refusal { number: 0, bit: 0 },
             Reading::Refused(r) => r,
         }
-    }
-}
-
-// The bits that each op code names; 13 to 15 are no codes, and name the header alone.
-const NAMED_BITS: [u64; 16] = [
-    0xFD00_FFFF_FFFF_FFFF,
-    0xFD00_C01F_FFFF_FFFF,
-    0xFD00_C000_0000_0000,
-    0xFD00_0000_0000_FFFF,
-    0xFD00_0000_03FF_FFFF,
-    0xFD00_0000_0000_03FF,
-    0xFD00_0000_03FF_FFFF,
-    0xFD00_0000_03FF_FFFF,
-    0xFDFF_FFFF_FFFF_FFFF,
-    0xFD00_C000_0000_0000,
-    0xFD00_EF00_FFFF_FFFF,
-    0xFDFF_FFFF_FFFF_FFFF,
-    0xFD00_0000_03FF_FFFF,
-    0xFD00_0000_0000_0000,
-    0xFD00_0000_0000_0000,
-    0xFD00_0000_0000_0000,
-];
-
-// The table's entry of an op code; by a match, which is compiled to a constant table.
-fn named_bits(code: u64) -> u64
-    ensures { λ r. ⌜ (code < 16 → r ≡ getD namedBits code 0) ⌝ }
-{
-    match code {
-        0 => NAMED_BITS[0],
-        1 => NAMED_BITS[1],
-        2 => NAMED_BITS[2],
-        3 => NAMED_BITS[3],
-        4 => NAMED_BITS[4],
-        5 => NAMED_BITS[5],
-        6 => NAMED_BITS[6],
-        7 => NAMED_BITS[7],
-        8 => NAMED_BITS[8],
-        9 => NAMED_BITS[9],
-        10 => NAMED_BITS[10],
-        11 => NAMED_BITS[11],
-        12 => NAMED_BITS[12],
-        13 => NAMED_BITS[13],
-        14 => NAMED_BITS[14],
-        _ => NAMED_BITS[15],
     }
 }
 
@@ -134,7 +91,7 @@ fn kind_of(code: u64, bit: u64) -> u64
     if bit == Instruction::RESERVED.low {
         return Refusal::RESERVED_BIT;
     }
-    if (named_bits(code) % (1 << Ignored::PLACE.width)) >> bit == 0 {
+    if payload_bits(code) >> bit == 0 {
         return Refusal::BIT_ABOVE;
     }
     Refusal::BIT_IN_GAP

@@ -1,21 +1,18 @@
 -- The highest bit of what the mask does not leave of the word.
-use mathlib.Core.Path.{_≡_, sym, ap, subst, _∙_}
+use mathlib.Core.Path.{_≡_, sym, ap, _∙_}
 use Prim.Native.Nat.{ℕ, _-_, _^_, _<_}
 use native.Mathlib.Omega.{arith}
 use lib.Bits.{bitAnd, and-le-l}
 use lib.Count.{leading-le}
-use lib.ListN.{getD}
-use Rattle.reader.specs.Masks.{namedBits}
-use Rattle.reader.proofs.Masks.{maskIn, code-small, zeros-few, no-top, top-bit}
+use Rattle.named.specs.Named.{namedBits}
+use Rattle.reader.proofs.Masks.{maskIn, zeros-few, no-top, top-bit}
 use borrow.Author.Needs.{needs}
 use Rattle.reader.proofs.highest_stray.Statement.{statement}
 use Rattle.reader.proofs.highest_stray.Tie as tie
 
--- what was looked up is the mask of the op code
+-- what was worked out is the mask of the op code
 masked : (c : tie.After-named-bits) → c .named-bits .result ≡ maskIn (c .before .before .args .word)
-masked c =
-    c .named-bits .ensures (subst (λ (k : ℕ). k < 16) (sym (c .before .code-in .ensures)) (code-small (c .before .before .args .word)))
-    ∙ ap (λ (k : ℕ). getD namedBits k 0) (c .before .code-in .ensures)
+masked c = c .named-bits .ensures ∙ ap namedBits (c .before .code-in .ensures)
 
 left : (c : tie.After-named-bits) → c .before .before .args .word - bitAnd (c .before .before .args .word) (c .named-bits .result) ≡ c .before .before .args .word - bitAnd (c .before .before .args .word) (maskIn (c .before .before .args .word))
 left c = ap (λ (m : ℕ). c .before .before .args .word - bitAnd (c .before .before .args .word) m) (masked c)
