@@ -13,7 +13,9 @@ use Rattle.listing.specs.Listing.{Listed}
 use Rattle.aps2_c.specs.Fields.{Read, Wrote}
 use Rattle.listing_reader.specs.declared.ReadBack.{ReadBack}
 use Rattle.listing_reader.proofs.Unique.{one-answer-read-listing}
-use Rattle.aps2_c.specs.Answer.{Ran, Checked, ListingRead}
+use Rattle.block.specs.declared.Translation.{Translation}
+use Rattle.block.proofs.Unique.{one-answer-block}
+use Rattle.aps2_c.specs.Answer.{Ran, Checked, ListingRead, BlockWritten}
 
 pub one-answer-aps2-read : (reading : Reading) {r r′ : ℕ} {fields fields′ bit bit′ : List ℕ} → Read reading r fields bit → Read reading r′ fields′ bit′
     → (r ≡ r′) × (fields ≡ fields′) × (bit ≡ bit′)
@@ -44,5 +46,14 @@ one-answer-aps2-read-listing rules text before p q =
     let o = one-answer-read-listing rules text before (p .reads) (q .reads) in (
       ap (λ (t : ReadBack). t .number) (o .0),
       p .told ∙ ap (λ (t : ReadBack). t .line ∷ t .count ∷ []) (o .0) ∙ sym (q .told),
+      o .1,
+    )
+
+pub one-answer-aps2-block : (wave : ℕ) (text before : List ℕ) {r r′ : ℕ} {after after′ told told′ : List ℕ} → BlockWritten wave text before after told r → BlockWritten wave text before after′ told′ r′
+    → (r ≡ r′) × (told ≡ told′) × (after ≡ after′)
+one-answer-aps2-block wave text before p q =
+    let o = one-answer-block wave text before (p .translates) (q .translates) in (
+      ap (λ (t : Translation). t .number) (o .0),
+      p .told ∙ ap (λ (t : Translation). t .line ∷ t .count ∷ []) (o .0) ∙ sym (q .told),
       o .1,
     )

@@ -15,6 +15,7 @@ use Rattle.rehearsal.specs.declared.Answer.{Answer}
 use Rattle.verdict.specs.Check.{CheckIs}
 use Rattle.verdict.specs.Flow.{verdict}
 use Rattle.listing_reader.specs.ReadBack.{ReadsBack}
+use Rattle.block.specs.Text.{Translates}
 
 abbrev pub conditionOf : Condition → ℕ
 conditionOf Absent = 0
@@ -59,3 +60,10 @@ pub record ListingRead (rules : Rules) (text before after given : List ℕ) (r :
   pub count : ℕ
   pub told : given ≡ line ∷ count ∷ []
   pub reads : ReadsBack rules text before after (record { number = r; line = line; count = count })
+
+-- what `aps2_block` answers, and what it leaves in the words and tells: line, and how many words
+pub record BlockWritten (wave : ℕ) (text before after given : List ℕ) (r : ℕ) : Type 0 where
+  pub line : ℕ
+  pub count : ℕ
+  pub told : given ≡ line ∷ count ∷ []
+  pub translates : Translates wave text before after (record { number = r; line = line; count = count })

@@ -9,8 +9,9 @@ ghost use Rattle.jumps.specs.State.{fixedIn};
 ghost use Rattle.rehearsal.specs.Run.{rehearse};
 ghost use Rattle.listing.specs.Listing.{listingOf, Listed};
 ghost use Rattle.aps2_c.specs.Firmware.{rulesOf};
-ghost use Rattle.aps2_c.specs.Answer.{conditionOf, flatWith, Ran, Checked, ListingRead};
+ghost use Rattle.aps2_c.specs.Answer.{conditionOf, flatWith, Ran, Checked, ListingRead, BlockWritten};
 ghost use Rattle.aps2_c.specs.Fields.{numbersOf, fieldsOf, Read, isName, filledPast, valuesAsked, wishOf, Wrote};
+use block::block;
 use dispatch::Engines;
 use instruction::Body;
 use instruction::Instruction;
@@ -303,4 +304,13 @@ pub extern "C" fn aps2_read_listing(
     let read = read_listing(text, rules_of(firmware), words);
     *told = [read.line, read.count];
     read.number
+}
+
+#[no_mangle]
+pub extern "C" fn aps2_block(text: &[u8], wave: u64, words: &mut [u64], told: &mut [u64; 2]) -> u64
+    ensures { λ r. ⌜ BlockWritten wave (now (text .entry)) (now (words .entry)) (now (words .exit)) (now (told .exit)) r ⌝ }
+{
+    let translated = block(text, QuadSamples(wave), words);
+    *told = [translated.line, translated.count];
+    translated.number
 }

@@ -18,9 +18,9 @@ use Rattle.machine.specs.Kept.{Good}
 use Rattle.machine.proofs.Kept.{kept, fresh-good}
 use Rattle.rehearsal.specs.Run.{onto, runOf, inputRefused, rehearse}
 use Rattle.rehearsal.proofs.Runs.{rehearse-refused, rehearse-runs}
+use Rattle.fields.proofs.Gathered.{zero-at}
 use Rattle.demands.specs.Run.{SentIsLength, Stack, UnusedAreZero}
 use Rattle.demands.proofs.Steps.{Stacked, stays, pushes, pops, Outcome, stops, flows, holds, sends, outcome}
-use Rattle.demands.proofs.Runs.{zero-at}
 
 -- P speaks of what was dispatched so far and of the state then
 module _ (e : Fixed) (P : List ℕ → State → Type 0)

@@ -36,7 +36,8 @@ use Rattle.names.specs.Names.{nameOf, nameCount, nameAt, rowNamed}
 use Rattle.names.proofs.Rows.{row-found, named-has}
 use Rattle.listing.specs.Listing.{entriesOf, entriesIn, wordLines, headerText, listed}
 use Rattle.listing.proofs.Lines.{listing-lines}
-use Rattle.listing_reader.specs.ReadBack.{isKnown, instructionOf, wishIn, allNumbers, hasFields, fieldsRead, lineRead, lineNumber, wordIn, toldOf, isHeaded, bodyRows, readBack, wordsIn, fieldCount, refusedAt}
+use Rattle.fields.specs.Fields.{allNumbers}
+use Rattle.listing_reader.specs.ReadBack.{isKnown, instructionOf, wishIn, hasFields, fieldsRead, lineRead, lineNumber, wordIn, toldOf, isHeaded, bodyRows, readBack, wordsIn, fieldCount, refusedAt}
 use Rattle.listing_reader.specs.declared.ReadBack.{ReadBack}
 use Rattle.listing_reader.proofs.Fields.{has-fields, fields-known, known-written}
 use Rattle.listing_reader.proofs.Lines.{number-none, good-read, good-ended, told-next, told-none, told-good}

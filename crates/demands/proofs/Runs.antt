@@ -9,7 +9,7 @@ use native.Mathlib.Decide.{ℕ-discrete}
 use native.Mathlib.Omega.{arith}
 use borrow.Author.Tests.{eqb-true, eqb-false, eq-eqb, ne-eqb}
 use lib.Dec.{eqb}
-use lib.ListN.{length, getD, replicate, length-set, length-map}
+use lib.ListN.{length, getD, length-set, length-map}
 use lib.Seq.{getD-set-same, getD-set-other}
 use Rattle.instruction.specs.Bits.{pick}
 use Rattle.instruction.specs.Table.{codeOf}
@@ -23,6 +23,7 @@ use Rattle.jumps.specs.declared.State.{State}
 use Rattle.machine.specs.Step.{stepOf}
 use Rattle.rehearsal.proofs.Runs.{onto-onto}
 use Rattle.rehearsal.specs.Run.{onto, thenDid, runOf, inputRefused, rehearse}
+use Rattle.fields.proofs.Gathered.{zero-at}
 use Rattle.demands.specs.Run.{playedOn, awaitedOn, sumOver, TotalsAreSums, WaitsAreCounts, taken, StepsAreTaken, StepByStep}
 use Rattle.demands.proofs.Steps.{Outcome, stops, flows, holds, sends, outcome, stops-still}
 
@@ -135,11 +136,6 @@ totals-sum (w ∷ trace) l k h =
     totals-sum trace (totalsAfter l i) k (subst (λ (n : ℕ). k < n) (sym (length-set l (engineOf i) (getD l (engineOf i) 0 + playsFor (i .body)))) h)
     ∙ ap (λ (n : ℕ). n + sumOver (playedOn k) trace) (added-at l (engineOf i) k (playsFor (i .body)) h)
     ∙ add-assoc (getD l k 0) (playedOn k i) (sumOver (playedOn k) trace)
-
-pub zero-at : (n k : ℕ) → getD {A = ℕ} (replicate n 0) k 0 ≡ 0
-zero-at zero k = refl
-zero-at (suc n) zero = refl
-zero-at (suc n) (suc k) = zero-at n k
 
 pub totals-are-sums : TotalsAreSums
 totals-are-sums e b k h =

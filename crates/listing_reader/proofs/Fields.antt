@@ -1,14 +1,14 @@
 -- Laws of a line's fields: numbers gathered one after the other, and what a line is read as once its fields are known.
 -- Assumes nothing.
-use Prim.Native.Nat.{ℕ, zero, suc, _+_, _-_, _≤_, _<_}
+use Prim.Native.Nat.{ℕ, suc, _+_, _-_, _≤_, _<_}
 use mathlib.Core.Path.{_≡_, refl, sym, ap, ap₂, _∙_}
 use mathlib.Core.Bool.{Bool, true, false, not, _&&_}
-use mathlib.Core.List.{List, [], _∷_, _++_, map, append-assoc, append-nil}
+use mathlib.Core.List.{List, [], _∷_, map}
 use native.Mathlib.Omega.{arith}
-use native.Mathlib.Decide.{ℕ-discrete, decLt}
-use borrow.Author.Tests.{eq-eqb, ne-eqb, eqb-true, leb-true, le-leb, lt-leb, lt-ltb, le-ltb}
+use native.Mathlib.Decide.{ℕ-discrete}
+use borrow.Author.Tests.{eq-eqb, ne-eqb, eqb-true, leb-true, le-leb, lt-ltb, le-ltb}
 use lib.Dec.{eqb, leb}
-use lib.ListN.{length, getD, set, take, drop, length-append, length-map}
+use lib.ListN.{length, getD, take, drop, replicate}
 use lib.Seq.{getD-drop}
 use Rattle.instruction.specs.Bits.{pick}
 use Rattle.instruction.specs.Table.{bodyOf}
@@ -16,129 +16,19 @@ use Rattle.instruction.specs.declared.Instruction.{Instruction}
 use Rattle.instruction.specs.declared.Rules.{Rules}
 use Rattle.instruction.specs.declared.Body.{Body}
 use Rattle.buffer.specs.Put.{put}
-use Rattle.buffer.proofs.Laws.{put-none, length-put, put-more, put-front}
 use Rattle.text.specs.Cut.{tab, cut, Row, placeOf, fieldsAfter}
 use Rattle.text.specs.Number.{value, isNumber, fieldAt, countedAt}
 use Rattle.text.specs.declared.Counted.{Counted}
 use Rattle.text.proofs.Below.{all-below}
-use Rattle.text.proofs.Cuts.{cut-first, found-order, found-inside, found-piece}
+use Rattle.text.proofs.Cuts.{found-order, found-inside}
 use Rattle.text.proofs.Back.{number-said, number-not}
-use Rattle.text.proofs.Rows.{after-last, after-next, field-next}
+use Rattle.text.proofs.Rows.{after-last, after-next}
+use Rattle.fields.specs.Fields.{allNumbers, NumbersRead}
+use Rattle.fields.proofs.Gathered.{first-field, values-at}
 use Rattle.names.specs.Names.{nameCount, rowNamed}
 use Rattle.listing.specs.Listing.{entriesOf}
 use Rattle.writer.specs.Writing.{notWritten, writtenOf}
-use Rattle.listing_reader.specs.ReadBack.{instructionOf, allNumbers, hasFields, fieldsRead, lineRead, fieldCount, knownRead, NumbersRead}
-use Rattle.text.proofs.Bools.{never, and-false}
-
--- ---- numbers, one after the other
-
-all-join : (xs ys : List (List ℕ)) → allNumbers (xs ++ ys) ≡ (allNumbers xs && allNumbers ys)
-all-join [] ys = refl
-all-join (x ∷ xs) ys = by (isNumber x) (all-join xs ys)
-  where
-    by : (t : Bool) → allNumbers (xs ++ ys) ≡ (allNumbers xs && allNumbers ys) → (t && allNumbers (xs ++ ys)) ≡ ((t && allNumbers xs) && allNumbers ys)
-    by true ih = ih
-    by false ih = refl
-
-values-join : (xs ys : List (List ℕ)) → map value (xs ++ ys) ≡ map value xs ++ map value ys
-values-join [] ys = refl
-values-join (x ∷ xs) ys = ap (λ (l : List ℕ). value x ∷ l) (values-join xs ys)
-
--- k numbers stand in front of place `at`, and their values are laid
-pub record Gathered (line : List ℕ) (from count : ℕ) (before values : List ℕ) (at k : ℕ) : Type 0 where
-  pub inside : at ≤ length line
-  pub few : k ≤ count
-  pub done : List (List ℕ)
-  pub size : length done ≡ k
-  pub good : allNumbers done ≡ true
-  pub fields : fieldsAfter from line ≡ done ++ fieldsAfter at line
-  pub wrote : values ≡ put before 0 (map value done)
-
-refuted : {count : ℕ} {fs : List (List ℕ)} {before after : List ℕ} → (eqb (length fs) count && allNumbers fs) ≡ false → NumbersRead count fs before after false
-refuted e = record { test = sym e; values = λ t. never (sym t) }
-
-module _ (line : List ℕ) (from count : ℕ) (before : List ℕ) (h : from ≤ length line) (l : count ≤ length before) where
-  pub gather-start : Gathered line from count before before from 0
-  gather-start = record { inside = h; few = omega arith; done = []; size = refl; good = refl; fields = refl; wrote = sym (put-none before 0) }
-
-  module _ {values : List ℕ} {at k : ℕ} (g : Gathered line from count before values at k) where
-    pub gather-length : length values ≡ length before
-    gather-length = ap length (g .wrote) ∙ length-put before (map value (g .done)) 0 (omega (arith, l, g .few, g .size, length-map (g .done) value))
-
-    all-there : length line ≤ at → fieldsAfter from line ≡ g .done
-    all-there e = g .fields ∙ ap (λ (fs : List (List ℕ)). g .done ++ fs) (after-last line at e) ∙ append-nil (g .done)
-
-    -- there is none any more
-    pub gather-few : k < count → length line ≤ at → NumbersRead count (fieldsAfter from line) before values false
-    gather-few m e = refuted (ap (λ (t : Bool). t && allNumbers (fieldsAfter from line)) (ne-eqb (length (fieldsAfter from line)) count (λ q. omega (arith, q, ap length (all-there e), g .size))))
-
-    module _ (e : at < length line) {r : Counted} (n : r ≡ countedAt (at + 1) line) where
-      abbrev field : List ℕ
-      field = fieldAt (at + 1) line
-
-      abbrev rest : List (List ℕ)
-      rest = fieldsAfter (placeOf tab (at + 1) line) line
-
-      next : fieldsAfter from line ≡ g .done ++ (field ∷ rest)
-      next =
-          g .fields
-          ∙ ap (λ (fs : List (List ℕ)). g .done ++ fs)
-          (after-next line at e refl ∙ ap (λ (p : List ℕ). p ∷ rest) (found-piece tab (at + 1) line refl))
-
-      -- the next is no number
-      pub gather-not : r .plain ≡ false → NumbersRead count (fieldsAfter from line) before values false
-      gather-not p =
-          refuted
-          (ap (λ (t : Bool). eqb (length (fieldsAfter from line)) count && t)
-          (ap allNumbers next ∙ all-join (g .done) (field ∷ rest)
-          ∙ ap (λ (t : Bool). allNumbers (g .done) && (t && allNumbers rest)) (number-not (at + 1) line n p) ∙ and-false (allNumbers (g .done)))
-          ∙ and-false (eqb (length (fieldsAfter from line)) count))
-
-      -- the next is one
-      module _ (p : r .plain ≡ true) where
-        said : (isNumber field ≡ true) × (r .value ≡ value field) × (r .end ≡ placeOf tab (at + 1) line)
-        said = number-said (at + 1) line n p
-
-        pub gather-next : k < count → Gathered line from count before (set values k (r .value)) (r .end) (k + 1)
-        gather-next m =
-            record {
-              inside = found-inside tab (at + 1) line (said .2) (omega arith);
-              few = omega arith;
-              done = g .done ++ (field ∷ []);
-              size = length-append (g .done) (field ∷ []) ∙ ap (λ (i : ℕ). i + 1) (g .size);
-              good = all-join (g .done) (field ∷ []) ∙ rw (g .good, said .0);
-              fields = next ∙ sym (append-assoc (g .done) (field ∷ []) rest) ∙ ap (λ (i : ℕ). (g .done ++ (field ∷ [])) ++ fieldsAfter i line) (sym (said .2));
-              wrote =
-                  ap₂ (λ (t : List ℕ) (i : ℕ). set t i (r .value)) (g .wrote) (place (length (map value (g .done))) k (length-map (g .done) value ∙ g .size))
-                  ∙ put-more before (map value (g .done)) 0 (r .value) (omega (arith, l, length-map (g .done) value, g .size))
-                  ∙ ap (λ (x : ℕ). put before 0 (map value (g .done) ++ (x ∷ []))) (said .1)
-                  ∙ ap (put before 0) (sym (values-join (g .done) (field ∷ [])));
-            }
-          where
-            place : (a b : ℕ) → a ≡ b → b ≡ 0 + a
-            place a b e = omega arith
-
-    -- enough of them: nothing may follow
-    pub gather-end : count ≤ k → NumbersRead count (fieldsAfter from line) before values (leb (length line) at)
-    gather-end m = by (decLt at (length line))
-      where
-        some : at < length line → 0 < length (fieldsAfter at line)
-        some e = rw (lt-ltb at (length line) e) (omega (arith, ap length (cut-first tab (drop (at + 1) line))))
-
-        by : Dec (at < length line) → NumbersRead count (fieldsAfter from line) before values (leb (length line) at)
-        by (yes e) =
-            rw (lt-leb (length line) at e)
-            (refuted
-            (ap (λ (t : Bool). t && allNumbers (fieldsAfter from line))
-            (ne-eqb (length (fieldsAfter from line)) count
-            (λ q. omega (arith, q, m, some e, ap length (g .fields), length-append (g .done) (fieldsAfter at line), g .size)))))
-        by (no e) =
-            let there = all-there (omega arith) in
-            rw (le-leb (length line) at (omega arith))
-            record {
-              test = sym (rw (there, g .good, eq-eqb (length (g .done)) count (omega (arith, g .size, g .few, m))));
-              values = λ t. g .wrote ∙ ap (λ (fs : List (List ℕ)). put before 0 (map value fs)) (sym there);
-            }
+use Rattle.listing_reader.specs.ReadBack.{instructionOf, hasFields, fieldsRead, lineRead, fieldCount, knownRead}
 
 -- ---- the instruction of a name and its numbers
 
@@ -161,33 +51,12 @@ has-fields row ns h =
         by (yes e) = eq-eqb (suc a) (suc b) (ap suc e) ∙ sym (eq-eqb a b e)
         by (no e) = ne-eqb (suc a) (suc b) (λ q. e (omega arith)) ∙ sym (ne-eqb a b e)
 
--- zeros behind numbers say nothing new
-zeros-end : (xs zs : List ℕ) (k : ℕ) → ((i : ℕ) → getD zs i 0 ≡ 0) → getD (xs ++ zs) k 0 ≡ getD xs k 0
-zeros-end [] zs k h = h k
-zeros-end (x ∷ xs) zs zero h = refl
-zeros-end (x ∷ xs) zs (suc k) h = zeros-end xs zs k h
-
-abbrev sixZeros : List ℕ
-sixZeros = 0 ∷ 0 ∷ 0 ∷ 0 ∷ 0 ∷ 0 ∷ []
-
-six-zeros : (i : ℕ) → getD sixZeros i 0 ≡ 0
-six-zeros zero = refl
-six-zeros (suc zero) = refl
-six-zeros (suc (suc zero)) = refl
-six-zeros (suc (suc (suc zero))) = refl
-six-zeros (suc (suc (suc (suc zero)))) = refl
-six-zeros (suc (suc (suc (suc (suc zero))))) = refl
-six-zeros (suc (suc (suc (suc (suc (suc i)))))) = refl
-
 abbrev pub made : ℕ → ℕ → ℕ → ℕ → ℕ → ℕ → ℕ → Instruction
 made row engine write a b c d = record { engine = engine; write = write; body = bodyOf row (a ∷ b ∷ c ∷ d ∷ []) }
 
-module _ (vs : List ℕ) {values : List ℕ} (e : values ≡ put sixZeros 0 vs) where
+module _ (vs : List ℕ) {values : List ℕ} (e : values ≡ put (replicate 6 0) 0 vs) where
   at : (k : ℕ) → getD values k 0 ≡ getD vs k 0
-  at k =
-      ap (λ (l : List ℕ). getD l k 0) (e ∙ put-front sixZeros vs)
-      ∙ zeros-end vs (drop (length vs) sixZeros) k
-      (λ i. getD-drop (length vs) sixZeros i 0 ∙ six-zeros (length vs + i))
+  at = values-at 6 vs e
 
   below : (k : ℕ) → getD values (2 + k) 0 ≡ getD (drop 2 vs) k 0
   below k = at (2 + k) ∙ sym (getD-drop 2 vs k 0)
@@ -238,18 +107,15 @@ module _ (rules : Rules) (line : List ℕ) (a : ℕ) {r : Counted} (n : r ≡ co
   unfolding lineRead
   by-fields fs e = ap (fieldsRead rules a true) (sym e)
 
-  first : cut tab line ≡ address ∷ fieldsAfter (placeOf tab 0 line) line
-  first = field-next line 0 refl (omega arith) ∙ ap (λ (p : List ℕ). p ∷ fieldsAfter (placeOf tab 0 line) line) (found-piece tab 0 line refl)
-
   pub line-not : r .plain ≡ false → notWritten 61 ≡ lineRead rules a whole
-  line-not p = fields-61 rules a address (fieldsAfter (placeOf tab 0 line) line) (number-not 0 line n p) ∙ by-fields _ first
+  line-not p = fields-61 rules a address (fieldsAfter (placeOf tab 0 line) line) (number-not 0 line n p) ∙ by-fields _ (first-field line)
 
   module _ (p : r .plain ≡ true) where
     s : (isNumber address ≡ true) × (r .value ≡ value address) × (r .end ≡ placeOf tab 0 line)
     s = number-said 0 line n p
 
     start : cut tab line ≡ address ∷ fieldsAfter (r .end) line
-    start = first ∙ ap (λ (i : ℕ). address ∷ fieldsAfter i line) (sym (s .2))
+    start = first-field line ∙ ap (λ (i : ℕ). address ∷ fieldsAfter i line) (sym (s .2))
 
     pub line-alone : length line ≤ r .end → notWritten 61 ≡ lineRead rules a whole
     line-alone h =
@@ -285,7 +151,7 @@ module _ (rules : Rules) (line : List ℕ) (a : ℕ) {r : Counted} (n : r ≡ co
 -- ---- a line whose name is known, as its numbers are gathered
 
 module _ (rules : Rules) (row address a : ℕ) (h : row < nameCount) (ns : List (List ℕ)) {count : ℕ} (c : count ≡ fieldCount row)
-    {after : List ℕ} {r : Bool} (g : NumbersRead count ns sixZeros after r) where
+    {after : List ℕ} {r : Bool} (g : NumbersRead count ns (replicate 6 0) after r) where
   tested : hasFields row ns ≡ r
   tested = has-fields row ns h ∙ ap (λ (k : ℕ). eqb (length ns) k && allNumbers ns) (sym c) ∙ sym (g .test)
 

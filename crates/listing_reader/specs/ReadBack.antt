@@ -2,7 +2,7 @@
 -- Line by line: what is wrong with it, or the word that the writer writes for it; names and fields are those that the listing shows.
 use Prim.Native.Nat.{ℕ, suc, _+_, _-_}
 use mathlib.Core.Path.{_≡_}
-use mathlib.Core.Bool.{Bool, true, not, _||_, _&&_}
+use mathlib.Core.Bool.{Bool, not, _||_, _&&_}
 use mathlib.Core.List.{List, [], _∷_, _++_, map}
 use lib.Dec.{ltb, eqb, leb}
 use lib.ListN.{length, getD, take, drop}
@@ -11,9 +11,9 @@ use Rattle.instruction.specs.Form.{filled}
 use Rattle.instruction.specs.Table.{bodyOf}
 use Rattle.instruction.specs.declared.Instruction.{Instruction}
 use Rattle.instruction.specs.declared.Rules.{Rules}
-use Rattle.buffer.specs.Put.{put}
 use Rattle.text.specs.Cut.{Row, rowsIn, fieldsIn, sameText}
 use Rattle.text.specs.Number.{value, isNumber}
+use Rattle.fields.specs.Fields.{allNumbers}
 use Rattle.names.specs.Names.{nameCount, rowNamed}
 use Rattle.listing.specs.Listing.{entriesOf, headerText}
 use Rattle.writer.specs.Writing.{notWritten, writtenOf}
@@ -43,11 +43,6 @@ instructionOf row vs = record { engine = getD vs 0 0; write = getD vs 1 0; body 
 -- what a line asks the writer for
 abbrev pub wishIn : List (List ℕ) → Instruction
 wishIn fs = instructionOf (rowNamed (nameIn fs)) (map value (numbersIn fs))
-
--- "a number not plain decimal below 2^64" is none of them
-abbrev pub allNumbers : List (List ℕ) → Bool
-allNumbers [] = true
-allNumbers (f ∷ fs) = isNumber f && allNumbers fs
 
 -- "the fields its name has": as many as the listing shows behind the name
 abbrev pub hasFields : ℕ → List (List ℕ) → Bool
@@ -122,8 +117,3 @@ knownRead rules row address a fs =
     pick (not (hasFields row fs)) (notWritten 61)
     (pick (not (eqb address a)) (notWritten 62)
     (writtenOf rules (instructionOf row (map value fs))))
-
--- so many fields and no more, each a number: told, and then laid from the front
-pub record NumbersRead (count : ℕ) (fs : List (List ℕ)) (before after : List ℕ) (r : Bool) : Type 0 where
-  pub test : r ≡ (eqb (length fs) count && allNumbers fs)
-  pub values : r ≡ true → after ≡ put before 0 (map value fs)

@@ -9,8 +9,9 @@ ghost use Rattle.instruction.specs.Bits.{pick};
 ghost use Rattle.text.specs.Cut.{fieldsAfter};
 ghost use Rattle.writer.specs.Writing.{notWritten};
 ghost use Rattle.names.specs.Names.{nameCount};
-ghost use Rattle.listing_reader.specs.ReadBack.{fieldCount, knownRead, lineRead, NumbersRead};
+ghost use Rattle.listing_reader.specs.ReadBack.{fieldCount, knownRead, lineRead};
 use crate::ReadBack;
+use fields::read_numbers;
 use instruction::Body;
 use instruction::Instruction;
 use instruction::Rules;
@@ -42,28 +43,6 @@ fn field_count(row: u64) -> usize
         Body::PREFETCH => 3,
         _ => 0,
     }
-}
-
-// Whether just so many fields stand behind a place, each a number; they are then laid from the front.
-fn read_numbers(line: &[u8], from: usize, count: usize, values: &mut [u64]) -> bool
-    requires { ⌜ (from ≤ length (now line)) × (count ≤ length (now values)) ⌝ }
-    ensures { λ r. ⌜ NumbersRead count (fieldsAfter from (now (line .entry))) (now (values .entry)) (now (values .exit)) r ⌝ }
-{
-    let mut at = from;
-    let mut k: usize = 0;
-    while k < count {
-        if line.len() <= at {
-            return false;
-        }
-        let field = number_from(line, at + 1);
-        if !field.plain {
-            return false;
-        }
-        values[k] = field.value;
-        at = field.end;
-        k += 1;
-    }
-    line.len() <= at
 }
 
 fn refused(number: u64) -> Written

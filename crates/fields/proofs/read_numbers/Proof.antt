@@ -3,9 +3,9 @@ use Prim.Native.Nat.{_-_}
 use native.Mathlib.Omega.{arith}
 use borrow.Author.Needs.{needs}
 use borrow.Author.Tests.{not-true, not-false}
-use Rattle.listing_reader.proofs.Fields.{Gathered, gather-start, gather-length, gather-few, gather-not, gather-next, gather-end}
-use Rattle.listing_reader.proofs.line.read_numbers.Statement.{statement}
-use Rattle.listing_reader.proofs.line.read_numbers.Tie as tie
+use Rattle.fields.proofs.Gathered.{Gathered, gather-start, gather-length, gather-few, gather-not, gather-next, gather-end}
+use Rattle.fields.proofs.read_numbers.Statement.{statement}
+use Rattle.fields.proofs.read_numbers.Tie as tie
 
 abbrev Inv-loop : tie.InvT-loop
 Inv-loop line from count values₀ at₀ k₀ values at k = Gathered line from count values₀ values at k

@@ -1,0 +1,6 @@
+pub mod Lines
+pub mod Judging
+pub mod Laying
+pub mod Fitting
+pub mod Whole
+pub mod Unique

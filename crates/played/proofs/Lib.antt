@@ -1,0 +1,7 @@
+pub mod Sound
+pub mod Lines
+pub mod Goes
+pub mod Steps
+pub mod Runs
+pub mod Walks
+pub mod Played
