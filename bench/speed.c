@@ -5,7 +5,7 @@
 #include "../tests/lines.h"
 #include "../tests/sequences.h"
 
-enum { WORDS = 65536, FEWER = 4096, STEPS = 1000000, LISTED = 2048, WAVE = 16, NEST = 16, ROUNDS = 12, TIMES = 4 };
+enum { WORDS = 65536, FEWER = 4096, STEPS = 1000000, LISTED = 2048, WAVE = 16, MEMORY = 1 << 24, NEST = 16, ROUNDS = 12, TIMES = 4 };
 
 #define PLAY OP(0, HIGH | UINT64_C(2) << 24)
 #define REPEAT(to) OP(4, (uint64_t)(to))
@@ -58,6 +58,10 @@ static void their_listing(void) { theirs.number = second_listing(raw, 8 * n, fir
 static void our_read_listing(void) { ours.number = aps2_read_listing(text, text_len, firmware, ours.lent, room, ours.told); }
 static void their_read_listing(void) { theirs.number = second_read_listing(text, text_len, firmware, theirs.lent, room, theirs.told); }
 
+/* How the words of a block are laid out is each program's own: they are lent the room of n words, and of the lent words none are compared. */
+static void our_block(void) { ours.number = aps2_block(text, text_len, MEMORY, ours.lent, n, ours.told); }
+static void their_block(void) { theirs.number = second_block(text, text_len, MEMORY, theirs.lent, n, theirs.told); }
+
 /* Plays, and a GOTO back to the first. */
 static void straight(void)
 {
@@ -100,6 +104,47 @@ static void text_mixed(void)
     text_len = put_header(text);
     for (size_t a = 0; a < n; a++)
         text_len += put_line(text + text_len, a, second_read(words[a], firmware, fields, bit) ? PLAY : words[a], firmware);
+}
+
+/* A line of a block, with the numbers that its name has. */
+static void put_item(const char *name, int numbers, uint64_t first, uint64_t second)
+{
+    while (*name)
+        text[text_len++] = (uint8_t)*name++;
+    for (int i = 0; i < numbers; i++) {
+        text[text_len++] = '\t';
+        text_len += put_number(text + text_len, i ? second : first);
+    }
+    text[text_len++] = '\n';
+}
+
+static void put_plays(size_t count)
+{
+    for (; count > 0; count--)
+        put_item(below(2) ? "play" : "hold", 2, below(MEMORY / 2), 2 + below(2000));
+}
+
+/* A block of n words: plays and holds, one after the other. */
+static void flat_block(void)
+{
+    seed = 1;
+    text_len = 0;
+    put_plays(n - 2);
+}
+
+/* Nests as deep as can be, two plays or holds before and two behind each repeat in them, as many as there is room for, and then plays. */
+static void nested_block(void)
+{
+    size_t size = 8 * NEST, nests = (n - 2) / size;
+    seed = 1;
+    text_len = 0;
+    for (size_t i = 0; i < nests; i++) {
+        for (size_t deep = 0; deep < NEST; deep++)
+            put_item("repeat", 1, 1 + below(WORDS), 0), put_plays(2);
+        for (size_t deep = 0; deep < NEST; deep++)
+            put_plays(2), put_item("end", 0, 0, 0);
+    }
+    put_plays(n - 2 - nests * size);
 }
 
 /* From the last address down to the first, one GOTO after another. */
@@ -179,6 +224,10 @@ struct line {
 #define LIST(family, fill) { "listing " family, our_listing, their_listing, fill, LISTED, 8 * LISTED, LISTED, 0, 0, 1e18, 1e18 }
 #define READ_LISTING(name, n, fewer) { name, our_read_listing, their_read_listing, text_mixed, n, n, n, fewer, 0, 1e18, 1e18 }
 
+#define BLOCK(family, fill) \
+    { "block " family, our_block, their_block, fill, WORDS, 0, WORDS, 0, 0, 1e18, 1e18 }, \
+    { "block-growth " family, our_block, their_block, fill, FEWER, 0, FEWER, 1, 0, 1e18, 1e18 }
+
 static struct line lines[] = {
     READ("plays", straight),
     READ("mixed", mixed),
@@ -196,6 +245,8 @@ static struct line lines[] = {
     READ_LISTING("read-listing mixed 2048", LISTED, 0),
     READ_LISTING("read-listing mixed 65536", WORDS, 0),
     READ_LISTING("read-listing-growth mixed", LISTED, 1),
+    BLOCK("flat", flat_block),
+    BLOCK("nested", nested_block),
 };
 enum { LINES = sizeof lines / sizeof *lines };
 

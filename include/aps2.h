@@ -1,7 +1,7 @@
 /* The C interface of Oatneedle: what the archive libaps2_c.a holds.
    No function keeps anything, allocates, or reads past what it is lent; every input gets an answer.
    The buffers of one call must not overlap, and no pointer may be null, also where its length is 0 (any other will do then). A call needs
-   room on the stack: aps2_check 321 KiB, aps2_listing 169 KiB, the others 1 KiB. */
+   room on the stack: aps2_check 321 KiB, aps2_listing 169 KiB, aps2_block 5 KiB, the others 1 KiB. */
 #ifndef APS2_H
 #define APS2_H
 
@@ -57,6 +57,14 @@ size_t aps2_listing(const uint8_t *bytes, size_t len, uint64_t firmware, uint8_t
    bad line, 60 to 64 or the writer's 23, 13 to 19 or 24, and leaves `words` as it was; what is past the words read is always left. told: 0
    the line, from 1, and 0 beside 0; 1 how many words, and 0 after a refusal. RETURN and LOAD_CMP come back with payload zero. */
 uint64_t aps2_read_listing(const uint8_t *text, size_t len, uint64_t firmware, uint64_t *words, size_t words_len, uint64_t told[2]);
+
+/* Makes a sequence of a block: a text of lines, each ended by a line feed, their fields parted by tabs. `play` address count is a plain play,
+   `hold` address count one with T/A, `repeat` N and `end` stand around lines that are done N times, 1 to 65,536, at most 16 deep. The
+   sequence starts with SYNC, is accepted by aps2_check for the same `wave`, and parks on a GOTO to itself. Returns 0 and starts `words` with
+   it, or returns 3, the number of the first bad line, 50 to 53 or the writer's 23 or 16 or 20, or 54 (more than 65,536 words) or 55 (no
+   room), and leaves `words` as it was; what is past the sequence is always left. told: 0 the line, from 1, that of a `repeat` without `end`
+   being the one after the last, and 0 beside 0, 3, 54 and 55; 1 how many words, and 0 after a refusal. */
+uint64_t aps2_block(const uint8_t *text, size_t len, uint64_t wave, uint64_t *words, size_t words_len, uint64_t told[2]);
 
 #ifdef __cplusplus
 }

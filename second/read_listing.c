@@ -1,36 +1,8 @@
-/* The listing read back: document 02, requests 1 and 3. All lines are judged before the first word is written.
-   Each function reads from a place on and gives back the place behind what it read, or NULL where that does not stand there. */
+/* The listing read back: document 02, requests 1 and 3. All lines are judged before the first word is written. */
 #include "names.h"
+#include "text.h"
 
 enum { NONE = -1 };
-
-static inline const uint8_t *byte(const uint8_t *at, const uint8_t *end, uint8_t wanted)
-{
-    return at < end && *at == wanted ? at + 1 : NULL;
-}
-
-/* A number below 2^64 in plain decimal: as many digits as stand there, at least one, and no zero before others. */
-static inline const uint8_t *decimal(const uint8_t *at, const uint8_t *end, uint64_t *value)
-{
-    const uint8_t *first = at;
-    uint64_t v = 0;
-    for (; at < end && *at >= '0' && *at <= '9'; at++) {
-        uint64_t digit = (uint64_t)(*at - '0');
-        if (v > (~UINT64_C(0) - digit) / 10)
-            return NULL;
-        v = v * 10 + digit;
-    }
-    if (at == first || (*first == '0' && at - first > 1))
-        return NULL;
-    *value = v;
-    return at;
-}
-
-static inline const uint8_t *tabbed(const uint8_t *at, const uint8_t *end, uint64_t *value)
-{
-    at = byte(at, end, '\t');
-    return at ? decimal(at, end, value) : NULL;
-}
 
 static inline int is(const uint8_t *from, const uint8_t *to, const char *name)
 {
@@ -109,14 +81,13 @@ static uint64_t line(const uint8_t **start, const uint8_t *end, uint64_t address
 
 uint64_t second_read_listing(const uint8_t *text, size_t len, uint64_t firmware, uint64_t *words, size_t words_len, uint64_t told[2])
 {
-    const uint8_t *end = text + len, *first = text, *at;
+    const uint8_t *end = text + len, *first = letters(text, end, "aps2-listing\t1\n"), *at;
     uint64_t word[1], number = 0;
     size_t n = 0;
     told[0] = 1;
     told[1] = 0;
-    for (const char *header = "aps2-listing\t1\n"; *header; header++)
-        if (!(first = byte(first, end, (uint8_t)*header)))
-            return 60;
+    if (!first)
+        return 60;
     for (at = first; at < end; n++) {
         number = line(&at, end, n, firmware, word);
         if (!number && n == words_len)

@@ -1,5 +1,5 @@
-/* The second program: documents 01 and 02 once more, in C, written from the documents and never from the proved code. All but places.c
-   and read_listing.c was reworked afterwards for the benchmark (docs/DECISIONS.md).
+/* The second program: documents 01 and 02 once more, in C, written from the documents and never from the proved code. All but places.c,
+   read_listing.c, block.c and unrolled.c was reworked afterwards for the benchmark (docs/DECISIONS.md).
    It is what the proved code is compared with. Names and meanings are those of include/aps2.h. */
 #ifndef SECOND_H
 #define SECOND_H
@@ -19,5 +19,13 @@ uint64_t second_run(const uint64_t *words, size_t n, uint64_t wave, uint64_t fir
                     uint32_t triggers, uint64_t *trace, size_t room, uint64_t budget, uint64_t answer[55]);
 size_t second_listing(const uint8_t *bytes, size_t len, uint64_t firmware, uint8_t *out, size_t out_len);
 uint64_t second_read_listing(const uint8_t *text, size_t len, uint64_t firmware, uint64_t *words, size_t words_len, uint64_t told[2]);
+
+/* The layout is this program's own: the bodies behind the park, in reading order. */
+uint64_t second_block(const uint8_t *text, size_t len, uint64_t wave, uint64_t *words, size_t words_len, uint64_t told[2]);
+
+/* What the block of an accepted text comes to, without its words. told: 0 the steps to the park, 1 how many words are dispatched before it,
+   each 2^64 - 1 where it is more; 2 the steps and 3 the dispatched words, which start `trace`, of a run with this budget and room that goes no
+   further than the park. */
+void second_unrolled(const uint8_t *text, size_t len, uint64_t budget, uint64_t *trace, size_t room, uint64_t told[4]);
 
 #endif

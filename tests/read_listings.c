@@ -4,49 +4,21 @@
 #include "../include/aps2.h"
 #include "../second/second.h"
 #include "bits.h"
-#include "texts.h"
+#include "cases.h"
+#include "rows.h"
 
-#define SHORT 400
+#define MOST 3000 /* words */
 
-/* What each program makes of the text; `before` is what both buffers held. */
-static uint64_t ours[MOST + 64 + BEHIND], theirs[MOST + 64 + BEHIND], before[MOST + 64 + BEHIND], words[MOST];
+#define LENT (MOST + 64)
+#include "lent.h"
 
-/* Which case this is. */
-static uint64_t this_family, this_case, this_seed;
-
-static void show_answer(const char *who, uint64_t number, const uint64_t told[2])
-{
-    printf("  %s: number %llu, line %llu, words %llu\n", who, (unsigned long long)number, (unsigned long long)told[0], (unsigned long long)told[1]);
-}
+static uint64_t words[MOST];
 
 static void show_case(size_t room)
 {
-    printf("  case: read_listings %llu %llu %llu; firmware %llu, %llu bytes, room %llu\n", (unsigned long long)this_family,
-           (unsigned long long)this_case, (unsigned long long)this_seed, (unsigned long long)firmware, (unsigned long long)len,
-           (unsigned long long)room);
-    if (len > SHORT)
-        return;
-    printf("  text: ");
-    for (size_t i = 0; i < len; i++)
-        printf("%02x", text[i]);
-    printf("%s\n", len ? "" : "-");
-}
-
-/* Nothing behind the text may be read: what stands there would mend many a text. */
-static void tempt(void)
-{
-    static const char bytes[] = "\n\t0915N";
-    for (int i = 0; i < BEHIND; i++)
-        text[len + (size_t)i] = (uint8_t)bytes[below(sizeof bytes - 1)];
-}
-
-/* Both buffers alike, and told with nothing that an answer would hold. */
-static void lend(size_t room, uint64_t our_told[2], uint64_t their_told[2])
-{
-    for (size_t i = 0; i < room + BEHIND; i++)
-        ours[i] = theirs[i] = before[i] = random64();
-    for (int i = 0; i < 2; i++)
-        our_told[i] = random64(), their_told[i] = random64();
+    show_number("read_listings");
+    printf("  firmware %llu, %llu bytes, room %llu\n", (unsigned long long)firmware, (unsigned long long)len, (unsigned long long)room);
+    show_text();
 }
 
 /* Words go whole or not at all, and what is behind them stays. */
@@ -90,18 +62,6 @@ static uint64_t try_read(size_t room)
         show_word(room);
     }
     return number;
-}
-
-/* Rooms around n words: none, one short, just enough, any, and mostly more than enough. */
-static size_t room_around(size_t n)
-{
-    switch (below(8)) {
-    case 0: return 0;
-    case 1: return n ? n - 1 : 0;
-    case 2: return n;
-    case 3: return below(n + 1);
-    default: return n + below(6);
-    }
 }
 
 /* Every name, and one field of it at every edge, beside others that are zero, one, an instruction's, or any. */
@@ -232,7 +192,7 @@ static void try_damages(uint64_t count)
     size_t n = 1 + below(8);
     start_text(n);
     for (uint64_t i = 0; i < count; i++)
-        damage();
+        damage(HEADER);
     try_read(room_around(n));
     try_read(n + 3);
 }
@@ -240,17 +200,7 @@ static void try_damages(uint64_t count)
 static void try_damage(uint64_t k) { (void)k, try_damages(1); }
 static void try_more_damages(uint64_t k) { try_damages(2 + k % 4); }
 
-/* Numbers as they should not be written, and those around 2^64, in place of the address, of every field, and of a field too many. */
-static const char *const numbers[] = {
-    "0", "1", "18446744073709551614", "18446744073709551615", "18446744073709551616", "18446744073709551617", "18446744073709551620",
-    "18446744073709551625", "18446744073709551626", "18446744083709551615", "19446744073709551615", "20000000000000000000", "28446744073709551615",
-    "36893488147419103232", "99999999999999999999", "100000000000000000000", "184467440737095516150", "340282366920938463463374607431768211456",
-    "340282366920938463463374607431768211457", "1844674407370955161", "9999999999999999999", "10000000000000000000", "00", "01", "000", "007",
-    "00000000000000000000", "00000000000000000000000000000000000001", "018446744073709551615", "+0", "+1", "-0", "-1", "", " 0", "0 ", " ", "1 1",
-    "0x1", "0.0", "1e3", "1,000", "1_0", "O", "a", "f", "0\r", "/", ":", "1/", "1:", "\xb2", "\xff",
-};
-#define NUMBERS (sizeof numbers / sizeof *numbers)
-
+/* A number that is not plain, or around 2^64, in place of the address, of every field, and of a field too many. */
 static void try_number(uint64_t k)
 {
     const struct row *row = &rows[k % ROWS];
@@ -299,39 +249,6 @@ static void try_header(uint64_t k)
     for (size_t a = 0; a < n; a++)
         put_word(a, good_word());
     try_read(room_around(n));
-}
-
-/* Names that are none, made from one that is. */
-#define SPELLINGS 20
-static void put_name(uint64_t spelling, const char *name)
-{
-    size_t from = len;
-    put_bytes(name);
-    switch (spelling) {
-    case 0: break;
-    case 1: text[from] |= 0x20; break;
-    case 2:
-        for (size_t i = from; i < len; i++)
-            text[i] |= 0x20;
-        break;
-    case 3: len--; break;
-    case 4: drop(from, 1); break;
-    case 5: len = from; break;
-    case 6: len = from + 1; break;
-    case 7: put_bytes("S"); break;
-    case 8: put_bytes(name); break;
-    case 9: put_bytes("_"), put_bytes(name); break;
-    case 10: put_bytes("\r"); break;
-    case 11: put_bytes(" "); break;
-    case 12: add(from, ' '); break;
-    case 13: add(len, 0); break;
-    case 14: add(len, 255); break;
-    case 15: len = from, put_bytes("BAD"); break;
-    case 16: len = from, put_bytes("bad"); break;
-    case 17: put_decimal(below(20)); break;
-    case 18: text[from + below(len - from)] = odd_byte(); break;
-    default: text[len - 1] ^= 1; break;
-    }
 }
 
 /* A name spelt so, with the fields of the name, a single one or none; its address right or not; its line feed there or not. */
@@ -404,7 +321,7 @@ static void try_rooms(uint64_t k)
     size_t n = below(k % 10 ? 12 : 60);
     start_text(n);
     if (k % 2)
-        damage();
+        damage(HEADER);
     for (size_t room = 0; room <= n + 2; room++)
         try_read(room);
 }
@@ -418,7 +335,7 @@ static void try_long(uint64_t k)
     try_read(n);
     try_read(n - 1);
     try_read(k % 2 ? 0 : n + 7);
-    damage();
+    damage(HEADER);
     try_read(n + 1);
     try_read(2048);
 }
@@ -476,11 +393,7 @@ static void try_back(uint64_t k)
     }
 }
 
-static const struct {
-    const char *name;
-    uint64_t cases;
-    void (*try_case)(uint64_t k);
-} families[] = {
+static const struct cases families[] = {
     { "read listing: every name, each field at its edges and past them", ROWS * 6 * EDGES * 4, try_edge },
     { "read listing: every name with every number of fields", ROWS * 8 * 3, try_count },
     { "read listing: addresses out of turn", ROWS * SHIFTS * 12, try_address },
@@ -513,36 +426,9 @@ static void all_met(void)
     family("read listing: every number was met");
 }
 
-static void try_one(uint64_t which, uint64_t k)
-{
-    this_family = which;
-    this_case = k;
-    this_seed = seed;
-    firmware = any_firmware();
-    families[which].try_case(k);
-}
-
-static uint64_t argument(const char *s)
-{
-    uint64_t n = 0;
-    while (*s)
-        n = n * 10 + (uint64_t)(*s++ - '0');
-    return n;
-}
-
 int main(int count, char **arguments)
 {
-    if (count == 4 && argument(arguments[1]) < FAMILIES) {
-        seed = argument(arguments[3]);
-        try_one(argument(arguments[1]), argument(arguments[2]));
-        family(families[this_family].name);
-        return 0;
-    }
-    for (uint64_t which = 0; which < FAMILIES; which++) {
-        for (uint64_t k = 0; k < families[which].cases; k++)
-            try_one(which, k);
-        family(families[which].name);
-    }
-    all_met();
+    if (try_families(families, FAMILIES, count, arguments))
+        all_met();
     return 0;
 }

@@ -1,34 +1,17 @@
-/* Texts to read back: lines of every name with any fields, put together one after the other, and damaged. What is good is so for the
-   firmware of the case. */
+/* Texts to read: put together one piece after the other, and damaged. */
 #ifndef TEXTS_H
 #define TEXTS_H
 
 #include "firmware.h"
 #include "lines.h"
 
-#define MOST 3000 /* words */
-#define TEXT (HEADER + LINE * (MOST + 8))
+#define TEXT (1 << 21)
+#define SHORT 400 /* bytes of a text that is shown */
 #define BEHIND 8 /* bytes of text and words of buffer behind what is lent */
 
 /* The text under test. */
 static uint8_t text[TEXT + BEHIND], kept[TEXT];
 static size_t len;
-
-/* The names, and the width of each field that a line with the name shows. */
-struct row {
-    const char *name;
-    uint64_t code;
-    int count, width[6];
-};
-static const struct row rows[] = {
-    { "WAVEFORM", 0, 6, { 2, 1, 2, 1, 21, 24 } }, { "MARKER", 1, 6, { 2, 1, 2, 4, 1, 32 } }, { "WAIT", 2, 2, { 2, 1 } },
-    { "LOAD_REPEAT", 3, 3, { 2, 1, 16 } }, { "REPEAT", 4, 3, { 2, 1, 26 } }, { "CMP", 5, 4, { 2, 1, 2, 8 } }, { "GOTO", 6, 3, { 2, 1, 26 } },
-    { "CALL", 7, 3, { 2, 1, 26 } }, { "RETURN", 8, 2, { 2, 1 } }, { "SYNC", 9, 2, { 2, 1 } }, { "MODULATOR", 10, 5, { 2, 1, 3, 4, 32 } },
-    { "LOAD_CMP", 11, 2, { 2, 1 } }, { "PREFETCH", 12, 3, { 2, 1, 26 } }, { "NOOP", 15, 0, { 0 } },
-};
-#define ROWS (sizeof rows / sizeof *rows)
-
-static inline const struct row *any_row(void) { return &rows[below(ROWS)]; }
 
 static inline uint64_t top(int width) { return (UINT64_C(1) << width) - 1; }
 
@@ -65,46 +48,6 @@ static inline uint64_t edge(uint64_t k, int width)
     }
 }
 
-/* Fields of a row, mostly within their widths. */
-static inline void any_fields(const struct row *row, uint64_t f[6])
-{
-    for (int i = 0; i < row->count; i++) {
-        f[i] = below(3) ? edge(below(EDGES), row->width[i]) : below(3);
-        if (below(20))
-            f[i] &= top(row->width[i]);
-    }
-}
-
-/* The writer's number for fields of a row; the word beside it. */
-static inline uint64_t written(const struct row *row, const uint64_t f[6], uint64_t word[1])
-{
-    uint64_t fields[8] = { row->code };
-    for (int i = 0; i < row->count; i++)
-        fields[1 + i] = f[i];
-    return second_write(fields, firmware, word);
-}
-
-/* Fields of a row that are an instruction; its word. */
-static inline uint64_t good_fields(const struct row *row, uint64_t f[6])
-{
-    uint64_t word[1];
-    do
-        any_fields(row, f);
-    while (written(row, f, word));
-    return word[0];
-}
-
-/* A word that passes form. RETURN and LOAD_CMP have any payload. */
-static inline uint64_t good_word(void)
-{
-    const struct row *row = any_row();
-    uint64_t f[6], word = good_fields(row, f);
-    return (row->code == 8 || row->code == 11) && below(2) ? word | random64() >> 8 : word;
-}
-
-/* Any word: one in twelve has a bit damaged, and mostly fails form. */
-static inline uint64_t any_listed(void) { return below(12) ? good_word() : good_word() ^ UINT64_C(1) << below(64); }
-
 /* Texts are put together here. */
 static inline void put_bytes(const char *s)
 {
@@ -114,30 +57,16 @@ static inline void put_bytes(const char *s)
 
 static inline void put_decimal(uint64_t v) { len += put_number(text + len, v); }
 
-static inline void put_fields(const uint64_t *f, int count)
-{
-    for (int i = 0; i < count; i++)
-        put_bytes("\t"), put_decimal(f[i]);
-}
-
-static inline void put_row(uint64_t address, const struct row *row, const uint64_t f[6])
-{
-    put_decimal(address);
-    put_bytes("\t");
-    put_bytes(row->name);
-    put_fields(f, row->count);
-    put_bytes("\n");
-}
-
-static inline void put_word(uint64_t address, uint64_t word) { len += put_line(text + len, address, word, firmware); }
-
-/* The header and n lines that are good. */
-static inline void start_text(size_t n)
-{
-    len = put_header(text);
-    for (size_t a = 0; a < n; a++)
-        put_word(a, good_word());
-}
+/* Numbers as they should not be written, and those around 2^64. */
+static const char *const numbers[] = {
+    "0", "1", "18446744073709551614", "18446744073709551615", "18446744073709551616", "18446744073709551617", "18446744073709551620",
+    "18446744073709551625", "18446744073709551626", "18446744083709551615", "19446744073709551615", "20000000000000000000", "28446744073709551615",
+    "36893488147419103232", "99999999999999999999", "100000000000000000000", "184467440737095516150", "340282366920938463463374607431768211456",
+    "340282366920938463463374607431768211457", "1844674407370955161", "9999999999999999999", "10000000000000000000", "00", "01", "000", "007",
+    "00000000000000000000", "00000000000000000000000000000000000001", "018446744073709551615", "+0", "+1", "-0", "-1", "", " 0", "0 ", " ", "1 1",
+    "0x1", "0.0", "1e3", "1,000", "1_0", "O", "a", "f", "0\r", "/", ":", "1/", "1:", "\xb2", "\xff",
+};
+#define NUMBERS (sizeof numbers / sizeof *numbers)
 
 /* Cuts bytes out of the text and puts others there; does nothing where there is no room for them. */
 static inline void splice(size_t at, size_t cut, const uint8_t *bytes, size_t n)
@@ -160,8 +89,41 @@ static inline void add(size_t at, uint8_t byte) { splice(at, 0, &byte, 1); }
 
 static inline uint8_t odd_byte(void)
 {
-    static const char bytes[] = "\t\n\r 0123456789ABCDEGLMNOPRSTWY_ad+-\377";
+    static const char bytes[] = "\t\n\r 0123456789ABCDEGLMNOPRSTWY_adehlnoprty+-\377";
     return (uint8_t)(below(4) ? bytes[below(sizeof bytes)] : (char)below(256));
+}
+
+/* Names that are none, made from one that is. */
+#define SPELLINGS 20
+static inline void put_name(uint64_t spelling, const char *name)
+{
+    size_t from = len;
+    put_bytes(name);
+    switch (spelling) {
+    case 0: break;
+    case 1: text[from] ^= 0x20; break;
+    case 2:
+        for (size_t i = from; i < len; i++)
+            text[i] ^= 0x20;
+        break;
+    case 3: len--; break;
+    case 4: drop(from, 1); break;
+    case 5: len = from; break;
+    case 6: len = from + 1; break;
+    case 7: put_bytes("S"); break;
+    case 8: put_bytes(name); break;
+    case 9: put_bytes("_"), put_bytes(name); break;
+    case 10: put_bytes("\r"); break;
+    case 11: put_bytes(" "); break;
+    case 12: add(from, ' '); break;
+    case 13: add(len, 0); break;
+    case 14: add(len, 255); break;
+    case 15: len = from, put_bytes("BAD"); break;
+    case 16: len = from, put_bytes("bad"); break;
+    case 17: put_decimal(below(20)); break;
+    case 18: text[from + below(len - from)] = odd_byte(); break;
+    default: text[len - 1] ^= 1; break;
+    }
 }
 
 static inline int is_mark(uint8_t byte) { return byte == '\t' || byte == '\n'; }
@@ -210,12 +172,12 @@ static inline void renumber(size_t mark)
         splice(mark + 1, end - mark - 1, digits, n);
 }
 
-/* One damage, mostly behind the header. */
-static inline void damage(void)
+/* One damage, mostly from a place on. */
+static inline void damage(size_t from)
 {
     if (len == 0)
         return;
-    size_t at = below(8) && len > HEADER ? HEADER + below(len - HEADER) : below(len), mark = mark_from(at), last = mark < len ? mark : len - 1;
+    size_t at = below(8) && len > from ? from + below(len - from) : below(len), mark = mark_from(at), last = mark < len ? mark : len - 1;
     switch (below(17)) {
     case 0: drop(at, 1); break;
     case 1: add(at + below(2), odd_byte()); break;
@@ -235,6 +197,37 @@ static inline void damage(void)
     case 15: len = at; break;
     default: len--; break;
     }
+}
+
+/* Nothing behind the text may be read: what stands there would mend many a text. */
+static inline void tempt(void)
+{
+    static const char bytes[] = "\n\t0915Nend";
+    for (int i = 0; i < BEHIND; i++)
+        text[len + (size_t)i] = (uint8_t)bytes[below(sizeof bytes - 1)];
+}
+
+/* Rooms around n words: none, one short, just enough, any, and mostly more than enough. */
+static inline size_t room_around(size_t n)
+{
+    switch (below(8)) {
+    case 0: return 0;
+    case 1: return n ? n - 1 : 0;
+    case 2: return n;
+    case 3: return below(n + 1);
+    default: return n + below(6);
+    }
+}
+
+/* The text, where it is short. */
+static inline void show_text(void)
+{
+    if (len > SHORT)
+        return;
+    printf("  text: ");
+    for (size_t i = 0; i < len; i++)
+        printf("%02x", text[i]);
+    printf("%s\n", len ? "" : "-");
 }
 
 #endif

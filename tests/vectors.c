@@ -1,24 +1,25 @@
 /* Cases from a separate implementation, one to a line on standard input, compared with the proved code.
-   The first line names the kind: `read`, `write`, `check`, `run`, `listing` or `read_listing`. Lists are parted by commas, `-` is the empty
-   list, words are hexadecimal. Every case has its firmware, which is passed on. */
+   The first line names the kind: `read`, `write`, `check`, `run`, `listing`, `read_listing`, `block` or `block_long`. Lists are parted by
+   commas, `-` is the empty list, words are hexadecimal. Every case but a block has its firmware, which is passed on. */
 #include "../include/aps2.h"
 #include "check.h"
 
 static int next = ' ';
 
-/* The next number of the line, in base 10 or 16. */
+/* The next number of the line, in base 10 or 16; 2^64 - 1 stands for all that are more. */
 static uint64_t number(int base)
 {
-    uint64_t n = 0;
+    uint64_t n = 0, digit;
     while (next == ' ' || next == ',' || next == '\n')
         next = getchar();
     for (;; next = getchar()) {
         if (next >= '0' && next <= '9')
-            n = n * base + (next - '0');
+            digit = (uint64_t)(next - '0');
         else if (base == 16 && next >= 'a' && next <= 'f')
-            n = n * base + (next - 'a' + 10);
+            digit = (uint64_t)(next - 'a' + 10);
         else
             return n;
+        n = n > (~UINT64_C(0) - digit) / (uint64_t)base ? ~UINT64_C(0) : n * (uint64_t)base + digit;
     }
 }
 
@@ -142,7 +143,7 @@ static void check_cases(void)
     family_of("vectors: check", (const int[]){ 0, 24, 111, 112, 113, -1 });
 }
 
-#define TEXT 200000
+#define TEXT 700000
 
 static uint8_t raw[TEXT], expected_text[TEXT], text[TEXT];
 
@@ -214,12 +215,74 @@ static void read_listing_cases(void)
     family_of("vectors: read_listing", (const int[]){ 0, 23, 24, 60, 61, 62, 63, 64, -1 });
 }
 
+#define BUDGET 1000000
+#define ROOM 70200 /* words of a block, and more behind */
+
+static uint64_t block[ROOM], sent[BUDGET];
+
+/* A run of our words gets to the park, a GOTO to itself, after these steps and not one before, having dispatched so many words; where that is
+   beyond the budget it goes a part of the way. The first words that it dispatches are those listed. */
+static int runs(size_t n, uint64_t wave, uint64_t steps, uint64_t many, size_t first)
+{
+    uint64_t answer[55], budget = steps < BUDGET ? steps : BUDGET;
+    int good = aps2_run(block, n, wave, 0, messages, 0, 0, sent, BUDGET, budget - 1, answer) == 40;
+    good &= answer[1] < n && block[answer[1]] != (UINT64_C(6) << 60 | answer[1]);
+    good &= aps2_run(block, n, wave, 0, messages, 0, 0, sent, BUDGET, budget, answer) == 40 && answer[4] <= many;
+    if (steps <= BUDGET)
+        good &= answer[1] < n && block[answer[1]] == (UINT64_C(6) << 60 | answer[1]) && answer[4] == many;
+    for (size_t i = 0; i < first && i < answer[4]; i++)
+        good &= sent[i] == listed[i];
+    return good;
+}
+
+/* The rest of a line, of which the text was read. How the words are laid out is ours; behind them the buffer is all 1, as before. */
+static void block_case(size_t len)
+{
+    uint64_t wave = number(10), room = number(10), expected = number(10), line = number(10), count = number(10), told[2];
+    uint64_t steps = number(10), many = number(10);
+    size_t first = numbers(16, listed, MOST);
+    for (size_t i = 0; i < ROOM; i++)
+        block[i] = 1;
+    int good = aps2_block(text, len, wave, block, room, told) == expected && told[0] == line && told[1] == count;
+    for (size_t i = count; i < ROOM; i++)
+        good &= block[i] == 1;
+    if (good && expected == 0)
+        good = runs(count, wave, steps, many, first);
+    compared++;
+    meet(expected);
+    if (!good)
+        disagree(compared);
+}
+
+static void block_cases(void)
+{
+    while (more())
+        block_case(hexadecimal(text));
+    family_of("vectors: block", (const int[]){ 0, 3, 16, 20, 23, 50, 51, 52, 53, 55, -1 });
+}
+
+/* Copies of a piece of text, and what follows them. */
+static void block_long_cases(void)
+{
+    while (more()) {
+        size_t piece = hexadecimal(raw), copies = number(10), len = 0;
+        for (; copies > 0; copies--)
+            for (size_t i = 0; i < piece && len < TEXT; i++)
+                text[len++] = raw[i];
+        for (size_t i = 0, behind = hexadecimal(raw); i < behind && len < TEXT; i++)
+            text[len++] = raw[i];
+        block_case(len);
+    }
+    family_of("vectors: block_long", (const int[]){ 0, 3, 20, 50, 52, 54, 55, -1 });
+}
+
 static const struct {
     const char *name;
     void (*cases)(void);
 } kinds[] = {
     { "read", read_cases }, { "write", write_cases }, { "check", check_cases },
     { "run", run_cases }, { "listing", listing_cases }, { "read_listing", read_listing_cases },
+    { "block", block_cases }, { "block_long", block_long_cases },
 };
 
 static int same(const char *a, const char *b)

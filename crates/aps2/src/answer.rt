@@ -1,4 +1,4 @@
-// The answers: the listing; the verdict with the word that it is about; how a run ended, and all that it left; the words of a listing.
+// The answers: the listing; the verdict with the word that it is about; how a run ended, and all that it left; the words of a listing or block.
 // Each comes as text for a person or as an object for a script, and its exit status last.
 use crate::space;
 use files::input::Found;
@@ -173,7 +173,7 @@ pub fn run(words: &[u64], asked: Asked, listed: bool) {
     }
 }
 
-// The words of a listing: as text, or raw into a file.
+// The words of a listing or block: as text, or raw into a file.
 pub fn words(words: &[u64], asked: Asked) {
     if asked.out == 0 {
         say_hexadecimal(words);
@@ -189,17 +189,19 @@ pub fn words(words: &[u64], asked: Asked) {
     told::ends(told::ACCEPTED, 0);
 }
 
-// A listing that is refused: its number and the line.
-pub fn say_bad_listing(found: Found) {
+// A text that is refused: its number, and the line where it has one.
+pub fn say_bad_text(found: Found) {
     say(b"refused: ");
     say_number(found.number);
-    say(b" at line ");
-    say_number(found.line);
+    if found.line != 0 {
+        say(b" at line ");
+        say_number(found.line);
+    }
     say(b"\n");
 }
 
 // The same by name, for the file that an argument names.
-pub fn say_bad_listing_by_name(found: Found, argument: usize) {
+pub fn say_bad_text_by_name(found: Found, argument: usize) {
     file::begin(argument, told::REFUSED);
     file::say_member(b"number", found.number);
     file::say_member(b"line", found.line);
@@ -207,13 +209,15 @@ pub fn say_bad_listing_by_name(found: Found, argument: usize) {
 }
 
 // And what stands in that line.
-pub fn refused_listing(found: Found, line: &[u8], asked: Asked) {
+pub fn refused_text(found: Found, line: &[u8], asked: Asked) {
     if asked.json {
-        say_bad_listing_by_name(found, asked.file);
+        say_bad_text_by_name(found, asked.file);
         told::ends(told::REFUSED, 0);
         return;
     }
-    say_bad_listing(found);
-    say_typed(line);
+    say_bad_text(found);
+    if found.line != 0 {
+        say_typed(line);
+    }
     told::ends(told::REFUSED, found.number);
 }

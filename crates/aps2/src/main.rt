@@ -1,4 +1,4 @@
-// aps2: lists, checks and rehearses the words of a file, and reads listings back, for the script of the same name.
+// aps2: lists, checks and rehearses the words of a file, reads listings back and translates blocks, for the script of the same name.
 // What is worth a proof stands in the libraries; here what is asked for is answered.
 mod answer;
 mod several;
@@ -6,7 +6,8 @@ mod space;
 
 use files::input::Found;
 use files::input::words_of;
-use files::listed::listing_of;
+use files::texts::Written;
+use files::texts::text_of;
 use request::asked;
 use request::asked::Asked;
 use sequence::Sequence;
@@ -17,6 +18,7 @@ fn give(words: &[u64], asked: Asked, listed: bool) {
         asked::LIST => answer::list(words, asked),
         asked::CHECK => answer::check(words, asked.wave, asked.rules, listed),
         asked::WORDS => answer::words(words, asked),
+        asked::BLOCK => answer::words(words, asked),
         _ => answer::run(words, asked, listed),
     }
 }
@@ -29,12 +31,17 @@ fn without_words(asked: Asked) {
     told::ends(told::NO_ANSWER, 0);
 }
 
-// What `words` reads is a listing, whatever its name.
+// What `words` reads is a listing, and what `block` reads a block, whatever its name.
 fn find(asked: Asked, words: &mut [u64], line: &mut [u8]) -> Found {
+    let rules = asked.rules;
+    let wave = asked.wave;
     if asked.command == asked::WORDS {
-        return listing_of(asked.file, asked.rules, words, line);
+        return text_of(asked.file, Written::Listing(rules), words, line);
     }
-    words_of(asked.file, asked.hex, asked.rules, words, line)
+    if asked.command == asked::BLOCK {
+        return text_of(asked.file, Written::Block(wave), words, line);
+    }
+    words_of(asked.file, asked.hex, asked.rules, asked.wave, words, line)
 }
 
 fn serve(asked: Asked) {
@@ -48,7 +55,7 @@ fn serve(asked: Asked) {
     }
     if found.number != 0 {
         if found.shown <= line.len() {
-            answer::refused_listing(found, &line[..found.shown], asked);
+            answer::refused_text(found, &line[..found.shown], asked);
         }
         return;
     }

@@ -1,7 +1,7 @@
 // The check of several files, and of any number of them as JSON: a line for each, whatever became of those before it.
 // Nothing is kept between files but how many were accepted.
-use crate::answer::say_bad_listing;
-use crate::answer::say_bad_listing_by_name;
+use crate::answer::say_bad_text;
+use crate::answer::say_bad_text_by_name;
 use crate::space;
 use files::input::Found;
 use files::input::words_of;
@@ -82,15 +82,15 @@ fn say_line(verdict: Verdict, listed: bool) {
     }
 }
 
-// A listing that is refused.
-fn say_refused_listing(found: Found, asked: Asked, argument: usize) {
+// A text that is refused.
+fn say_refused_text(found: Found, asked: Asked, argument: usize) {
     if asked.json {
-        say_bad_listing_by_name(found, argument);
+        say_bad_text_by_name(found, argument);
         return;
     }
     say_name(argument);
     say(b": ");
-    say_bad_listing(found);
+    say_bad_text(found);
 }
 
 fn say_verdict(n: u64, verdict: Verdict, listed: bool) {
@@ -159,14 +159,21 @@ fn judge(words: &[u64], asked: Asked, argument: usize, listed: bool) -> u64 {
 fn check_file(asked: Asked, argument: usize) -> u64 {
     let mut words = space::for_words();
     let mut line = io::buffer();
-    let found = words_of(argument, asked.hex, asked.rules, &mut words, &mut line);
+    let found = words_of(
+        argument,
+        asked.hex,
+        asked.rules,
+        asked.wave,
+        &mut words,
+        &mut line,
+    );
     let n = found.count;
     if !found.good {
         say_no_answer(asked, argument);
         return told::NO_ANSWER;
     }
     if found.number != 0 {
-        say_refused_listing(found, asked, argument);
+        say_refused_text(found, asked, argument);
         return told::REFUSED;
     }
     if n <= Sequence::WORDS as usize {

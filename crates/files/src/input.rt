@@ -1,6 +1,8 @@
-// The words of a file or of standard input, as text, raw, or as a listing.
+// The words of a file or of standard input, as text, raw, as a listing or as a block.
 // They come in pieces of any size; what is wrong with them is told with its place.
-use crate::listed::listing_named;
+use crate::texts::Written;
+use crate::texts::text_named;
+use instruction::QuadSamples;
 use instruction::Rules;
 use libc::STDIN_FILENO;
 use sequence::Sequence;
@@ -18,7 +20,7 @@ struct Coming {
     failed: bool,
 }
 
-// How many words there are, or that there is no answer; whether a listing had them. A listing that is refused has its number, the line
+// How many words there are, or that there is no answer; whether a listing had them. A text that is refused has its number, the line
 // and how much of that line is shown.
 pub struct Found {
     pub count: usize,
@@ -125,14 +127,12 @@ fn complain_of_words(path: &[u8], taken: Taken, trouble: u64) {
     complain_of_digits(trouble);
 }
 
-// How many letters the end of a name has that tells what the file holds.
-const SUFFIX: usize = 4;
-
+// Whether a name has an end that tells what the file holds.
 fn ends_in(path: &[u8], suffix: &[u8]) -> bool {
-    if path.len() < SUFFIX {
+    if path.len() < suffix.len() {
         return false;
     }
-    same(&path[path.len() - SUFFIX..], suffix)
+    same(&path[path.len() - suffix.len()..], suffix)
 }
 
 fn words_in(fd: i32, path: &[u8], spelling: Spelling, words: &mut [u64]) -> Found {
@@ -177,12 +177,13 @@ fn words_named(path: &[u8], hex: bool, words: &mut [u64]) -> Found {
     words_of_file(path, spelling, words)
 }
 
-// The words of the file that an argument names; a name that ends in .lst is a listing's. Of one that is refused, the line is laid at the
-// start of what is lent.
+// The words of the file that an argument names; a name that ends in .lst is a listing's, and one in .block a block's. Of a text that is
+// refused, the line is laid at the start of what is lent.
 pub fn words_of(
     argument: usize,
     hex: bool,
     rules: Rules,
+    wave: QuadSamples,
     words: &mut [u64],
     line: &mut [u8],
 ) -> Found {
@@ -190,7 +191,10 @@ pub fn words_of(
     let n = os::arg(argument, &mut name);
     let path = &name[..n];
     if !hex & ends_in(path, b".lst") {
-        return listing_named(path, rules, words, line);
+        return text_named(path, Written::Listing(rules), words, line);
+    }
+    if !hex & ends_in(path, b".block") {
+        return text_named(path, Written::Block(wave), words, line);
     }
     words_named(path, hex, words)
 }

@@ -17,6 +17,8 @@ pub const RUN: u64 = 3;
 
 pub const WORDS: u64 = 4;
 
+pub const BLOCK: u64 = 5;
+
 const HEX: u64 = 1;
 
 const WAVE: u64 = 2;
@@ -70,6 +72,9 @@ fn command_named(text: &[u8]) -> u64 {
     }
     if same(text, b"words") {
         return WORDS;
+    }
+    if same(text, b"block") {
+        return BLOCK;
     }
     0
 }
@@ -132,22 +137,24 @@ fn is_alone(option: u64) -> bool {
 }
 
 fn needs_wave(command: u64) -> bool {
-    (command == CHECK) | (command == RUN)
+    (command == CHECK) | (command == RUN) | (command == BLOCK)
 }
 
-// Whether a command has an option. Every command reads words for a firmware. The words of a listing may go to a file; every other command
-// reads words in two ways and has two ways to tell its answer, check and run need a waveform memory, and the rest are of a run.
+// The commands that make words of a text.
+fn makes_words(command: u64) -> bool {
+    (command == WORDS) | (command == BLOCK)
+}
+
+// Whether a command has an option. Words that are made may go to a file, and every other command reads words in two ways and has two ways
+// to tell its answer. All but the block's read words for a firmware, some need a waveform memory, and the rest are of a run.
 fn has_option(command: u64, option: u64) -> bool {
-    if option == 0 {
-        return false;
+    match option {
+        0 => false,
+        FIRMWARE => command != BLOCK,
+        WAVE => needs_wave(command),
+        OUT => makes_words(command),
+        _ => !makes_words(command) & (is_alone(option) | (command == RUN)),
     }
-    if option == FIRMWARE {
-        return true;
-    }
-    if (command == WORDS) | (option == OUT) {
-        return (command == WORDS) & (option == OUT);
-    }
-    is_alone(option) | (option == WAVE) & needs_wave(command) | (command == RUN)
 }
 
 fn is_option(text: &[u8]) -> bool {
@@ -183,7 +190,7 @@ impl Asked {
             hex: false,
             json: false,
             has_wave: false,
-            wave: QuadSamples(0),
+            wave: Sequence::WAVE,
             rules: Rules::CURRENT,
             triggers: 0,
             budget: Sequence::BUDGET,

@@ -30,11 +30,11 @@ returns c = search needs
 array-share-prefix-line : tie.Need-array-share-prefix-line
 array-share-prefix-line c = search needs
 
-slice-aggregate-refused-listing : tie.Need-slice-aggregate-refused-listing
-slice-aggregate-refused-listing c = sym (length-take-le (c .before .before .before .before .before .before .before .before .before .find .result .shown) (c .before .before .before .before .before .before .before .before .before .find .last .1 .1 .0) (omega (arith, c .before .if3 .taken, c .before .before .before .before .before .before .before .before .before .find .kept .1 .1 .0)))
+slice-aggregate-refused-text : tie.Need-slice-aggregate-refused-text
+slice-aggregate-refused-text c = sym (length-take-le (c .before .before .before .before .before .before .before .before .before .find .result .shown) (c .before .before .before .before .before .before .before .before .before .find .last .1 .1 .0) (omega (arith, c .before .if3 .taken, c .before .before .before .before .before .before .before .before .before .find .kept .1 .1 .0)))
 
-refused-listing-requires : tie.Need-refused-listing-requires
-refused-listing-requires c κs = search needs
+refused-text-requires : tie.Need-refused-text-requires
+refused-text-requires c κs = search needs
 
 returns-2 : tie.Need-returns-2
 returns-2 c = search needs
@@ -69,8 +69,8 @@ serve-spec =
     without-words-requires
     returns
     array-share-prefix-line
-    slice-aggregate-refused-listing
-    refused-listing-requires
+    slice-aggregate-refused-text
+    refused-text-requires
     returns-2
     returns-3
     array-share-prefix-words

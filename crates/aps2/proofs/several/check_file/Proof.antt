@@ -27,8 +27,8 @@ say-no-answer-requires c κs = search needs
 returns : tie.Need-returns
 returns c = search needs
 
-say-refused-listing-requires : tie.Need-say-refused-listing-requires
-say-refused-listing-requires c κs = search needs
+say-refused-text-requires : tie.Need-say-refused-text-requires
+say-refused-text-requires c κs = search needs
 
 returns-2 : tie.Need-returns-2
 returns-2 c = search needs
@@ -37,7 +37,7 @@ array-share-prefix-words : tie.Need-array-share-prefix-words
 array-share-prefix-words c = search needs
 
 slice-aggregate-judge : tie.Need-slice-aggregate-judge
-slice-aggregate-judge c = sym (length-take-le (c .before .before .before .before .before .before .before .before .words-of .result .count) (c .before .before .before .before .before .before .before .before .words-of .last .1 .1 .1 .0) (omega (arith, c .before .if3 .taken, c .before .before .before .before .before .before .before .before .words-of .kept .1 .1 .1 .0)))
+slice-aggregate-judge c = sym (length-take-le (c .before .before .before .before .before .before .before .before .words-of .result .count) (c .before .before .before .before .before .before .before .before .words-of .last .1 .1 .1 .1 .0) (omega (arith, c .before .if3 .taken, c .before .before .before .before .before .before .before .before .words-of .kept .1 .1 .1 .1 .0)))
 
 judge-requires : tie.Need-judge-requires
 judge-requires c κs = search needs
@@ -59,7 +59,7 @@ check-file-spec =
     words-of-requires
     say-no-answer-requires
     returns
-    say-refused-listing-requires
+    say-refused-text-requires
     returns-2
     array-share-prefix-words
     slice-aggregate-judge

@@ -2,8 +2,8 @@
 use mathlib.Core.Path.{sym}
 use lib.Seq.{length-take-le}
 use borrow.Author.Needs.{needs}
-use Rattle.files.proofs.listed.listing_in.Statement.{statement}
-use Rattle.files.proofs.listed.listing_in.Tie as tie
+use Rattle.files.proofs.texts.text_in.Statement.{statement}
+use Rattle.files.proofs.texts.text_in.Tie as tie
 
 room-requires : tie.Need-room-requires
 room-requires c κs = search needs
@@ -47,8 +47,8 @@ nothing-requires-2 c κs = search needs
 returns-3 : tie.Need-returns-3
 returns-3 c = search needs
 
-pub listing-in-spec : {M : Type 1} → statement M
-listing-in-spec =
+pub text-in-spec : {M : Type 1} → statement M
+text-in-spec =
     tie.close
     (tie.spec
     room-requires

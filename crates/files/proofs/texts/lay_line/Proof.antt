@@ -4,8 +4,8 @@ use mathlib.Core.Path.{_≡_, refl, _∙_}
 use native.Mathlib.Omega.{arith}
 use lib.ListN.{length, length-set}
 use borrow.Author.Needs.{needs}
-use Rattle.files.proofs.listed.lay_line.Statement.{statement}
-use Rattle.files.proofs.listed.lay_line.Tie as tie
+use Rattle.files.proofs.texts.lay_line.Statement.{statement}
+use Rattle.files.proofs.texts.lay_line.Tie as tie
 
 abbrev Inv-loop : tie.InvT-loop
 Inv-loop text from line₀ i₀ n₀ line i n = length line ≡ length line₀

@@ -1,8 +1,8 @@
 -- Line after line.
 use native.Mathlib.Omega.{arith}
 use borrow.Author.Needs.{needs}
-use Rattle.files.proofs.listed.line_start.Statement.{statement}
-use Rattle.files.proofs.listed.line_start.Tie as tie
+use Rattle.files.proofs.texts.line_start.Statement.{statement}
+use Rattle.files.proofs.texts.line_start.Tie as tie
 
 abbrev Inv-loop : tie.InvT-loop
 Inv-loop text line at₀ left₀ at left = Unit {0}

@@ -3,8 +3,8 @@ use Prim.Native.Nat.{ℕ}
 use mathlib.Core.Path.{sym}
 use lib.ListN.{length-replicate}
 use Rattle.files.specs.Room.{textRoom}
-use Rattle.files.proofs.listed.room.Statement.{statement}
-use Rattle.files.proofs.listed.room.Tie as tie
+use Rattle.files.proofs.texts.room.Statement.{statement}
+use Rattle.files.proofs.texts.room.Tie as tie
 
 returns : tie.Need-returns
 returns c = sym (length-replicate {A = ℕ} textRoom 0)

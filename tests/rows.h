@@ -1,0 +1,88 @@
+/* Listings to read back: lines of every name with any fields. What is good is so for the firmware of the case. */
+#ifndef ROWS_H
+#define ROWS_H
+
+#include "texts.h"
+
+/* The names, and the width of each field that a line with the name shows. */
+struct row {
+    const char *name;
+    uint64_t code;
+    int count, width[6];
+};
+static const struct row rows[] = {
+    { "WAVEFORM", 0, 6, { 2, 1, 2, 1, 21, 24 } }, { "MARKER", 1, 6, { 2, 1, 2, 4, 1, 32 } }, { "WAIT", 2, 2, { 2, 1 } },
+    { "LOAD_REPEAT", 3, 3, { 2, 1, 16 } }, { "REPEAT", 4, 3, { 2, 1, 26 } }, { "CMP", 5, 4, { 2, 1, 2, 8 } }, { "GOTO", 6, 3, { 2, 1, 26 } },
+    { "CALL", 7, 3, { 2, 1, 26 } }, { "RETURN", 8, 2, { 2, 1 } }, { "SYNC", 9, 2, { 2, 1 } }, { "MODULATOR", 10, 5, { 2, 1, 3, 4, 32 } },
+    { "LOAD_CMP", 11, 2, { 2, 1 } }, { "PREFETCH", 12, 3, { 2, 1, 26 } }, { "NOOP", 15, 0, { 0 } },
+};
+#define ROWS (sizeof rows / sizeof *rows)
+
+static inline const struct row *any_row(void) { return &rows[below(ROWS)]; }
+
+/* Fields of a row, mostly within their widths. */
+static inline void any_fields(const struct row *row, uint64_t f[6])
+{
+    for (int i = 0; i < row->count; i++) {
+        f[i] = below(3) ? edge(below(EDGES), row->width[i]) : below(3);
+        if (below(20))
+            f[i] &= top(row->width[i]);
+    }
+}
+
+/* The writer's number for fields of a row; the word beside it. */
+static inline uint64_t written(const struct row *row, const uint64_t f[6], uint64_t word[1])
+{
+    uint64_t fields[8] = { row->code };
+    for (int i = 0; i < row->count; i++)
+        fields[1 + i] = f[i];
+    return second_write(fields, firmware, word);
+}
+
+/* Fields of a row that are an instruction; its word. */
+static inline uint64_t good_fields(const struct row *row, uint64_t f[6])
+{
+    uint64_t word[1];
+    do
+        any_fields(row, f);
+    while (written(row, f, word));
+    return word[0];
+}
+
+/* A word that passes form. RETURN and LOAD_CMP have any payload. */
+static inline uint64_t good_word(void)
+{
+    const struct row *row = any_row();
+    uint64_t f[6], word = good_fields(row, f);
+    return (row->code == 8 || row->code == 11) && below(2) ? word | random64() >> 8 : word;
+}
+
+/* Any word: one in twelve has a bit damaged, and mostly fails form. */
+static inline uint64_t any_listed(void) { return below(12) ? good_word() : good_word() ^ UINT64_C(1) << below(64); }
+
+static inline void put_fields(const uint64_t *f, int count)
+{
+    for (int i = 0; i < count; i++)
+        put_bytes("\t"), put_decimal(f[i]);
+}
+
+static inline void put_row(uint64_t address, const struct row *row, const uint64_t f[6])
+{
+    put_decimal(address);
+    put_bytes("\t");
+    put_bytes(row->name);
+    put_fields(f, row->count);
+    put_bytes("\n");
+}
+
+static inline void put_word(uint64_t address, uint64_t word) { len += put_line(text + len, address, word, firmware); }
+
+/* The header and n lines that are good. */
+static inline void start_text(size_t n)
+{
+    len = put_header(text);
+    for (size_t a = 0; a < n; a++)
+        put_word(a, good_word());
+}
+
+#endif
