@@ -20,8 +20,9 @@ use Rattle.block_line.specs.Line.{lineOf, lineNumber, levelAfter}
 use Rattle.block_line.proofs.Shapes.{opIn, line-plays}
 use Rattle.block_line.proofs.Numbers.{repeat-fair, number-pulse, end-paired, shaped}
 use Rattle.block.specs.Text.{refusedAt, accepted, judged}
-use Rattle.block.specs.Steps.{linesFrom, Takes, wordsFor, counted, Judges}
-use Rattle.block.proofs.Lines.{lines-none}
+use Rattle.block_line.specs.Taking.{linesFrom, Takes}
+use Rattle.block_line.proofs.Forms.{lines-none}
+use Rattle.block.specs.Steps.{AllShaped, wordsFor, counted, Judges}
 use Rattle.block.specs.declared.Translation.{Translation}
 
 -- ---- one line
@@ -122,14 +123,11 @@ module _ (wave : ℕ) (text before : List ℕ) where
           }
 
     module _ {line : Line} {next : ℕ} (k : Takes text at line next) {number : ℕ} (e : number ≡ lineNumber wave level line) where
-      abbrev rest : List Line
-      rest = linesFrom text next
-
       pub judging-bad : (number ≡ 0 → ⊥) → {r : Translation} → r ≡ refusedAt number row → Judges wave text before sizes r
       judging-bad n f =
           record {
             answer =
-                f ∙ ap (λ (x : ℕ). refusedAt x row) e ∙ sym (judged-bad wave row level line rest (λ z. n (e ∙ z)))
+                f ∙ ap (λ (x : ℕ). refusedAt x row) e ∙ sym (judged-bad wave row level line (k .rest) (λ z. n (e ∙ z)))
                 ∙ sym (ap (judged wave row level) (k .lines)) ∙ g .told;
             sizes = λ z. absurd (n (sym (ap (λ (t : Translation). t .number) f) ∙ z));
             few = λ z. absurd (n (sym (ap (λ (t : Translation). t .number) f) ∙ z));
@@ -141,6 +139,10 @@ module _ (wave : ℕ) (text before : List ℕ) where
       module _ (z : number ≡ 0) where
         good : lineNumber wave level line ≡ 0
         good = sym e ∙ z
+
+        -- the lines go on behind it
+        on : linesFrom text at ≡ line ∷ linesFrom text next
+        on = k .lines ∙ ap (λ (ls : List Line). line ∷ ls) (k .goes (shaped wave level good))
 
         four : at + 4 ≤ next
         four = k .long (shaped wave level good)
@@ -160,8 +162,8 @@ module _ (wave : ℕ) (text before : List ℕ) where
                   deep = level-deep wave level line good (g .deep);
                   some = omega (arith, g .some);
                   few = omega (arith, raised-sum sizes level (wordsFor line) judging-place, words-few line, g .few, four);
-                  told = sym (judged-next wave row level line rest good) ∙ sym (ap (judged wave row level) (k .lines)) ∙ g .told;
-                  same = sym (ap (λ (ls : List Line). counted ls level sizes) (k .lines)) ∙ g .same;
+                  told = sym (judged-next wave row level line (linesFrom text next) good) ∙ sym (ap (judged wave row level) on) ∙ g .told;
+                  same = sym (ap (λ (ls : List Line). counted ls level sizes) on) ∙ g .same;
                 }
 
 -- ---- what is let through
@@ -195,6 +197,15 @@ fair-in wave row level (Repeat n ∷ lines) p e (suc out) k s = fair-in wave (ro
 fair-in wave row level (End ∷ lines) p e zero k s = tt
 fair-in wave row level (End ∷ lines) p e (suc out) k s = fair-in wave (row + 1) (level - 1) lines (p .1) (judged-good wave row level End lines e .1) out k (omega (arith, s))
 fair-in wave row level (Unshaped ∷ lines) p e out k s = absurd (shaped wave level (judged-good wave row level Unshaped lines e .0) refl)
+
+shaped-in : (wave row level : ℕ) (lines : List Line) → judged wave row level lines .number ≡ 0 → AllShaped lines
+shaped-in wave row level [] e = tt
+shaped-in wave row level (line ∷ lines) e =
+    let g = judged-good wave row level line lines e in
+    (shaped wave level (g .0), shaped-in wave (row + 1) (levelAfter line level) lines (g .1))
+
+pub judged-shaped : (wave : ℕ) (text : List ℕ) → judged wave 1 0 (linesFrom text 0) .number ≡ 0 → AllShaped (linesFrom text 0)
+judged-shaped wave text e = shaped-in wave 1 0 (linesFrom text 0) e
 
 pub judged-fair : (wave : ℕ) (text : List ℕ) → judged wave 1 0 (linesFrom text 0) .number ≡ 0 → Fair wave 0 (blockIn (linesFrom text 0) 0)
 judged-fair wave text e = fair-in wave 1 0 (linesFrom text 0) (all-play (rowsIn (drop 0 text))) e 0 0 refl

@@ -18,8 +18,9 @@ use Rattle.nest.specs.declared.Line.the-variants.{Pulse, Repeat, End, Unshaped}
 use Rattle.nest.proofs.Heads.{raised-length, raised-same, raised-up, passed-length, passed-up, passed-body}
 use Rattle.nest.proofs.Laid.{laid-heads, laid-length}
 use Rattle.text.proofs.Bools.{never}
-use Rattle.block.specs.Steps.{linesFrom, Takes, isEnd, CanLay, Onward, ItemAsks, Moved, BlockAsks, Laid}
-use Rattle.block.proofs.Lines.{lines-none}
+use Rattle.block_line.specs.Taking.{linesFrom, Takes}
+use Rattle.block_line.proofs.Forms.{lines-none}
+use Rattle.block.specs.Steps.{AllShaped, isEnd, CanLay, Onward, ItemAsks, Moved, BlockAsks, Laid}
 
 -- ---- sheets
 
@@ -50,6 +51,7 @@ module _ (text : List ℕ) (line : Line) (next level : ℕ) (heads words : List 
       record {
         later = omega arith;
         far = a .far;
+        shaped = a .shaped;
         onward = record {
           outer = λ out. ap (λ (l : Line). blockIn (l ∷ ls) (suc out)) (sym e);
           fair = λ wave f. subst (λ (l : Line). Fair wave level (blockIn (l ∷ ls) 0)) e f;
@@ -80,6 +82,7 @@ module _ (text : List ℕ) (line : Line) (next level : ℕ) (heads words : List 
         record {
           later = omega arith;
           far = a .far;
+          shaped = a .shaped;
           onward = record {
             outer = λ out. ap (λ (l : Line). blockIn (l ∷ ls) (suc out)) (sym e);
             fair = λ wave h. subst (λ (l : Line). Fair wave level (blockIn (l ∷ ls) 0)) e h .2;
@@ -130,6 +133,7 @@ module _ (text : List ℕ) (line : Line) (next level : ℕ) (heads words : List 
           asks =
               record {
                 far = a .far;
+                shaped = a .shaped;
                 can = record {
                   wave = can .wave;
                   fair = can .fair .3;
@@ -168,6 +172,7 @@ module _ (text : List ℕ) (line : Line) (next level : ℕ) (heads words : List 
             record {
               later = w .later;
               far = w .far;
+              shaped = w .shaped;
               onward = record {
                 outer = λ out. w .outer (suc out) ∙ ap (λ (x : Line). blockIn (x ∷ ls) (suc out)) (sym e);
                 fair = λ wave h. subst (Fair wave level) (sym (w .outer 0)) (subst (λ (x : Line). Fair wave level (blockIn (x ∷ ls) 0)) e h .4);
@@ -184,6 +189,7 @@ module _ (text : List ℕ) (line : Line) (next level : ℕ) (heads words : List 
 pub record Going (text : List ℕ) (at level : ℕ) (heads₀ words₀ : List ℕ) (i : ℕ) (heads words : List ℕ) : Type 0 where
   pub since : at ≤ i
   pub far : i ≤ length text
+  pub shaped : AllShaped (linesFrom text i)
   pub on : Onward (linesFrom text at) level (sheet heads₀ words₀) (linesFrom text i) (sheet heads words)
 
 is-end : (line : Line) → isEnd line ≡ true → line ≡ End
@@ -194,7 +200,7 @@ is-end Unshaped e = never (sym e)
 
 module _ (text : List ℕ) (at level : ℕ) (heads₀ words₀ : List ℕ) (a : BlockAsks text at level heads₀ words₀) where
   pub going-start : Going text at level heads₀ words₀ at heads₀ words₀
-  going-start = record { since = omega arith; far = a .far; on = record { outer = λ out. refl; fair = λ wave f. f; same = refl } }
+  going-start = record { since = omega arith; far = a .far; shaped = a .shaped; on = record { outer = λ out. refl; fair = λ wave f. f; same = refl } }
 
   module _ {i : ℕ} {heads words : List ℕ} (g : Going text at level heads₀ words₀ i heads words) where
     abbrev before : Block
@@ -225,32 +231,48 @@ module _ (text : List ℕ) (at level : ℕ) (heads₀ words₀ : List ℕ) (a : 
         record {
           later = g .since;
           far = g .far;
+          shaped = g .shaped;
           outer = λ out. ap (λ (ls : List Line). blockIn ls out) e ∙ sym (ap (λ (ls : List Line). blockIn ls (suc out)) e) ∙ g .on .outer out;
           wrote = sym (ap (λ (ls : List Line). laid (blockIn ls 0) level (sheet heads words)) e) ∙ g .on .same;
         }
 
     module _ {line : Line} {next : ℕ} (k : Takes text i line next) where
+      left : AllShaped (line ∷ k .rest)
+      left = subst AllShaped (k .lines) (g .shaped)
+
+      behind : k .rest ≡ linesFrom text next
+      behind = k .goes (left .0)
+
+      -- the lines go on behind it, each with a shape
+      lines : linesFrom text i ≡ line ∷ linesFrom text next
+      lines = k .lines ∙ ap (λ (ls : List Line). line ∷ ls) behind
+
+      shaped-next : AllShaped (linesFrom text next)
+      shaped-next = subst AllShaped behind (left .1)
+
       pub going-asks : isEnd line ≡ false → ItemAsks text line next level heads words
-      going-asks n = record { far = k .far; goes = n; can = subst (λ (ls : List Line). CanLay (blockIn ls 0) level heads words) (k .lines) going-can }
+      going-asks n = record { far = k .far; goes = n; shaped = shaped-next; can = subst (λ (ls : List Line). CanLay (blockIn ls 0) level heads words) lines going-can }
 
       pub going-next : {i′ : ℕ} {heads′ words′ : List ℕ} → Moved text line next level heads words i′ heads′ words′ → Going text at level heads₀ words₀ i′ heads′ words′
       going-next m =
           record {
             since = omega (arith, g .since, k .later, m .later);
             far = m .far;
+            shaped = m .shaped;
             on = record {
-              outer = λ out. m .onward .outer out ∙ sym (ap (λ (ls : List Line). blockIn ls (suc out)) (k .lines)) ∙ g .on .outer out;
-              fair = λ wave f. m .onward .fair wave (subst (λ (ls : List Line). Fair wave level (blockIn ls 0)) (k .lines) (g .on .fair wave f));
-              same = m .onward .same ∙ sym (ap (λ (ls : List Line). laid (blockIn ls 0) level (sheet heads words)) (k .lines)) ∙ g .on .same;
+              outer = λ out. m .onward .outer out ∙ sym (ap (λ (ls : List Line). blockIn ls (suc out)) lines) ∙ g .on .outer out;
+              fair = λ wave f. m .onward .fair wave (subst (λ (ls : List Line). Fair wave level (blockIn ls 0)) lines (g .on .fair wave f));
+              same = m .onward .same ∙ sym (ap (λ (ls : List Line). laid (blockIn ls 0) level (sheet heads words)) lines) ∙ g .on .same;
             };
           }
 
       pub going-end : isEnd line ≡ true → Laid text at level heads₀ words₀ next heads words
       going-end t =
-          let e = k .lines ∙ ap (λ (l : Line). l ∷ linesFrom text next) (is-end line t) in
+          let e = lines ∙ ap (λ (l : Line). l ∷ linesFrom text next) (is-end line t) in
           record {
             later = omega (arith, g .since, k .later);
             far = k .far;
+            shaped = shaped-next;
             outer = λ out. sym (ap (λ (ls : List Line). blockIn ls (suc out)) e) ∙ g .on .outer out;
             wrote = sym (ap (λ (ls : List Line). laid (blockIn ls 0) level (sheet heads words)) e) ∙ g .on .same;
           }

@@ -1,4 +1,3 @@
-pub mod Lines
 pub mod Judging
 pub mod Laying
 pub mod Fitting

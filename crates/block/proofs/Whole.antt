@@ -18,7 +18,7 @@ use Rattle.nest.proofs.Wholes.{headsOf, heads-levels, park-place, park-inside, 
 use Rattle.block.specs.Text.{linesIn, blockOf, refusedAt, accepted, judged, roomRefused, fitted, translation, Translates}
 use Rattle.block.specs.Steps.{Judges, BlockAsks, Laid, CanStart}
 use Rattle.block.specs.declared.Translation.{Translation}
-use Rattle.block.proofs.Judging.{judged-fair, judged-counts}
+use Rattle.block.proofs.Judging.{judged-shaped, judged-fair, judged-counts}
 use Rattle.block.proofs.Laying.{put-length, laid-places, laid-size}
 
 -- ---- laying
@@ -44,6 +44,7 @@ module _ (text heads words : List ℕ) (a : CanStart text heads words) where
         asks =
             record {
               far = omega arith;
+              shaped = a .shaped;
               can = record {
                 wave = a .wave;
                 fair = a .fair;
@@ -152,7 +153,7 @@ module _ (wave : ℕ) (text before : List ℕ) where
           room = fit-room (length before) (sizeOf (blockOf text)) (sym (number-of fits) ∙ y)
 
           pub lay-can : CanStart text heads before
-          lay-can = record { wave = wave; fair = fair; places = s .0 ∙ ap (startsFrom 0) sizes-are; room = room }
+          lay-can = record { wave = wave; shaped = judged-shaped wave text good; fair = fair; places = s .0 ∙ ap (startsFrom 0) sizes-are; room = room }
 
           pub block-done : {after : List ℕ} → after ≡ laidIn (blockOf text) before .words → Translates wave text before after r
           block-done e =

@@ -1,31 +1,25 @@
 -- What the functions of the translator ask and promise, over the lines that are left: it carries the code, and needs no belief.
 -- A block is laid from a line on; what was laid and what is left come to the same at every line.
-use Prim.Native.Nat.{ℕ, suc, _+_, _≤_, _<_}
+use Prim.Native.Nat.{ℕ, suc, _+_, _≤_}
 use mathlib.Core.Path.{_≡_}
 use mathlib.Core.Bool.{Bool, true, false}
-use mathlib.Core.List.{List, [], _∷_, map}
-use lib.ListN.{length, getD, drop}
-use Rattle.text.specs.Cut.{rowsIn}
+use mathlib.Core.List.{List, [], _∷_}
+use lib.ListN.{length, getD}
 use Rattle.nest.specs.Block.{Block, blockIn, nestLimit, Fair}
 use Rattle.nest.specs.Layout.{sizeOf, sumOf, raised, passed, sizesOf, startsFrom, Sheet, sheet, laid}
 use Rattle.nest.specs.declared.Line.{Line}
 use Rattle.nest.specs.declared.Line.the-variants.{Pulse, Repeat, End, Unshaped}
-use Rattle.block_line.specs.Line.{lineOf, levelAfter}
-use Rattle.block.specs.Text.{blockOf, judged}
+use Rattle.block_line.specs.Line.{levelAfter}
+use Rattle.block_line.specs.Taking.{linesFrom}
+use Rattle.block.specs.Text.{linesIn, blockOf, judged}
 use Rattle.block.specs.declared.Translation.{Translation}
 
 -- ---- lines
 
--- the lines from a byte on
-abbrev pub linesFrom : List ℕ → ℕ → List Line
-linesFrom text at = map lineOf (rowsIn (drop at text))
-
--- a line was taken, and the lines go on behind it
-pub record Takes (text : List ℕ) (at : ℕ) (line : Line) (next : ℕ) : Type 0 where
-  pub later : at < next
-  pub far : next ≤ length text
-  pub lines : linesFrom text at ≡ line ∷ linesFrom text next
-  pub long : (line ≡ Unshaped → ⊥) → at + 4 ≤ next
+-- what the judge lets through has a shape
+abbrev pub AllShaped : List Line → Type 0
+AllShaped [] = Unit {0}
+AllShaped (line ∷ lines) = (line ≡ Unshaped → ⊥) × AllShaped lines
 
 abbrev pub isEnd : Line → Bool
 isEnd (Pulse f) = false
@@ -70,27 +64,32 @@ pub record Onward (lines : List Line) (level : ℕ) (s : Sheet) (lines′ : List
 pub record ItemAsks (text : List ℕ) (line : Line) (next level : ℕ) (heads words : List ℕ) : Type 0 where
   pub far : next ≤ length text
   pub goes : isEnd line ≡ false
+  pub shaped : AllShaped (linesFrom text next)
   pub can : CanLay (blockIn (line ∷ linesFrom text next) 0) level heads words
 
 pub record Moved (text : List ℕ) (line : Line) (next level : ℕ) (heads words : List ℕ) (at′ : ℕ) (heads′ words′ : List ℕ) : Type 0 where
   pub later : next ≤ at′
   pub far : at′ ≤ length text
+  pub shaped : AllShaped (linesFrom text at′)
   pub onward : Onward (line ∷ linesFrom text next) level (sheet heads words) (linesFrom text at′) (sheet heads′ words′)
 
 pub record BlockAsks (text : List ℕ) (at level : ℕ) (heads words : List ℕ) : Type 0 where
   pub far : at ≤ length text
+  pub shaped : AllShaped (linesFrom text at)
   pub can : CanLay (blockIn (linesFrom text at) 0) level heads words
 
 -- a block was laid: what follows its end is what the blocks around it go on with
 pub record Laid (text : List ℕ) (at level : ℕ) (heads words : List ℕ) (at′ : ℕ) (heads′ words′ : List ℕ) : Type 0 where
   pub later : at ≤ at′
   pub far : at′ ≤ length text
+  pub shaped : AllShaped (linesFrom text at′)
   pub outer : (out : ℕ) → blockIn (linesFrom text at′) out ≡ blockIn (linesFrom text at) (suc out)
   pub wrote : sheet heads′ words′ ≡ laid (blockIn (linesFrom text at) 0) level (sheet heads words)
 
 -- the whole can be laid
 pub record CanStart (text heads words : List ℕ) : Type 0 where
   pub wave : ℕ
+  pub shaped : AllShaped (linesIn text)
   pub fair : Fair wave 0 (blockOf text)
   pub places : heads ≡ startsFrom 0 (sizesOf (blockOf text))
   pub room : sizeOf (blockOf text) ≤ length words

@@ -7,10 +7,10 @@ ghost use lib.ListN.{length};
 ghost use Rattle.nest.specs.Block.{nestLimit};
 ghost use Rattle.nest.specs.Layout.{sumOf, startsFrom, laidIn};
 ghost use Rattle.block.specs.Text.{refusedAt, blockOf, fitted, Translates};
-ghost use Rattle.block.specs.Steps.{Takes, isEnd, wordsFor, Judges, ItemAsks, Moved, BlockAsks, Laid, CanStart};
+ghost use Rattle.block.specs.Steps.{isEnd, wordsFor, Judges, ItemAsks, Moved, BlockAsks, Laid, CanStart};
 use block_line::level_after;
 use block_line::line_number;
-use block_line::line_of;
+use block_line::take_line;
 use instruction::QuadSamples;
 use nest::Line;
 use nest::Nest;
@@ -20,7 +20,6 @@ use nest::put_park;
 use nest::put_pulse;
 use nest::put_sync;
 use sequence::Sequence;
-use text::find;
 
 // What is told of a text: 0 and how many words it has, or the number of a refusal and its line.
 pub struct Translation {
@@ -56,31 +55,6 @@ impl Translation {
             line: 0,
             count,
         }
-    }
-}
-
-// A line, and where the next one starts.
-struct Taken {
-    line: Line,
-    next: usize,
-}
-
-// The line at a place before the text's end.
-fn take_line(text: &[u8], at: usize) -> Taken
-    requires { ⌜ at < length (now text) ⌝ }
-    ensures { λ r. ⌜ Takes (now (text .entry)) at (r .line) (r .next) ⌝ }
-{
-    let end = find(text, at, b'\n');
-    if text.len() <= end {
-        return Taken {
-            line: Line::Unshaped,
-            next: end,
-        };
-    }
-    let line = line_of(&text[at..end]);
-    Taken {
-        line,
-        next: end + 1,
     }
 }
 

@@ -1,2 +1,4 @@
 pub mod Shapes
 pub mod Numbers
+pub mod Forms
+pub mod Taking

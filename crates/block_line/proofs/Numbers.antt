@@ -8,27 +8,34 @@ use native.Mathlib.Numerals.{add-one}
 use borrow.Author.Tests.{eq-eqb, ne-eqb, eqb-false, leb-true, leb-false, le-leb, lt-leb}
 use lib.Dec.{eqb, leb}
 use Rattle.instruction.specs.Bits.{_gives_else_}
+use Rattle.instruction.specs.Form.{bodyForm, formOf}
 use Rattle.instruction.specs.Rules.{current}
+use Rattle.instruction.specs.Word.{bodyFits, fitsOf}
 use Rattle.instruction.specs.declared.WaveformFields.{WaveformFields}
 use Rattle.instruction.specs.declared.Body.the-variants.{Waveform}
 use Rattle.sequence.specs.Placing.{placingOf}
 use Rattle.text.proofs.Bools.{both}
 use Rattle.writer.specs.Writing.{askedOf}
-use Rattle.nest.specs.Block.{repeatLimit, nestLimit, high, pulseNumber}
+use Rattle.nest.specs.Block.{repeatLimit, nestLimit, pulseNumber}
 use Rattle.nest.specs.declared.Line.{Line}
 use Rattle.nest.specs.declared.Line.the-variants.{Pulse, Repeat, End, Unshaped}
 use Rattle.block_line.specs.Line.{lineNumber, levelAfter}
 
 -- ---- a play or hold
 
-module _ (wave : ℕ) (f : WaveformFields) {n : ℕ} (a : n ≡ askedOf current (high (Waveform f))) where
-  pub pulse-asked : (n ≡ 0 → ⊥) → n ≡ pulseNumber wave f
-  unfolding pulseNumber
-  pulse-asked h = a ∙ rw (ne-eqb (askedOf current (high (Waveform f))) 0 (λ e. h (a ∙ e)))
+module _ (wave : ℕ) (f : WaveformFields) where
+  pub pulse-wide : bodyFits (Waveform f) ≡ false → 23 ≡ pulseNumber wave f
+  unfolding pulseNumber askedOf fitsOf
+  pulse-wide e = rw e
 
-  pub pulse-placed : n ≡ 0 → placingOf wave 0 (Waveform f) ≡ pulseNumber wave f
-  unfolding pulseNumber
-  pulse-placed e = rw (eq-eqb (askedOf current (high (Waveform f))) 0 (sym a ∙ e))
+  module _ (fit : bodyFits (Waveform f) ≡ true) {n : ℕ} (a : n ≡ bodyForm current 0 (Waveform f)) where
+    pub pulse-formed : (n ≡ 0 → ⊥) → n ≡ pulseNumber wave f
+    unfolding pulseNumber askedOf fitsOf formOf
+    pulse-formed h = a ∙ rw (fit, ne-eqb (bodyForm current 0 (Waveform f)) 0 (λ e. h (a ∙ e)))
+
+    pub pulse-placed : n ≡ 0 → placingOf wave 0 (Waveform f) ≡ pulseNumber wave f
+    unfolding pulseNumber askedOf fitsOf formOf
+    pulse-placed e = rw (fit, eq-eqb (bodyForm current 0 (Waveform f)) 0 (sym a ∙ e))
 
 -- ---- a repeat
 

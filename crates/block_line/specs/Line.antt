@@ -57,22 +57,3 @@ levelAfter (Pulse f) level = level
 levelAfter (Repeat n) level = suc level
 levelAfter End level = level - 1
 levelAfter Unshaped level = level
-
--- ---- what the functions tell
-
--- which name a line has: `play`, `hold`, `repeat`, `end`, or none
-abbrev pub kindOf : List ℕ → ℕ
-kindOf name =
-    pick (sameText name (letters "play")) 0
-    (pick (sameText name (letters "hold")) 1
-    (pick (sameText name (letters "repeat")) 2
-    (pick (sameText name (letters "end")) 3
-    4)))
-
--- and how many numbers stand behind it
-abbrev pub numbersOf : ℕ → ℕ
-numbersOf kind = getD (2 ∷ 2 ∷ 1 ∷ []) kind 0
-
--- the line of a name with its numbers
-abbrev pub lineBy : ℕ → List ℕ → Line
-lineBy kind vs = getD (Pulse (pulseOf 0 vs) ∷ Pulse (pulseOf 1 vs) ∷ Repeat (getD vs 0 0) ∷ End ∷ []) kind Unshaped

@@ -3,122 +3,151 @@
 ghost use mathlib.Core.Path.{_≡_};
 ghost use mathlib.Core.List.{[], _∷_};
 ghost use mathlib.Core.Bool.{true};
-ghost use Prim.Native.Nat.{ℕ, _≤_};
+ghost use Prim.Native.Nat.{ℕ, _≤_, _<_};
+ghost use lib.ListN.{length, drop};
+ghost use Rattle.text.specs.Cut.{startsWith};
 ghost use Rattle.nest.specs.Block.{nestLimit, pulseNumber};
-ghost use Rattle.block_line.specs.Line.{pulseOf, lineOf, lineNumber, levelAfter, kindOf, numbersOf, lineBy};
-use fields::read_numbers;
+ghost use Rattle.block_line.specs.Line.{pulseOf, lineNumber, levelAfter};
+ghost use Rattle.block_line.specs.Taking.{Takes, heldIn, repeatName};
 use instruction::Body;
 use instruction::EngineOp;
-use instruction::Instruction;
 use instruction::QuadSamples;
-use instruction::Rules;
+use instruction::Refusal;
 use instruction::WaveformFields;
+use laid::widths::waveform_fits;
 use nest::Line;
 use nest::Nest;
 use sequence::Sequence;
-use text::find;
-use text::same;
-use writer::asked;
+use text::number_then;
+use text::starts_with;
 
-pub struct Kind;
+// A line, and where the next one starts.
+pub struct Taken {
+    pub line: Line,
+    pub next: usize,
+}
 
-impl Kind {
-    pub const PLAY: u64 = 0;
+impl Taken {
+    // How many bytes a name and the byte behind it have.
+    const PULSE: usize = 5;
 
-    pub const HOLD: u64 = 1;
+    const REPEAT: usize = 7;
 
-    pub const REPEAT: u64 = 2;
+    const END: usize = 4;
 
-    pub const END: u64 = 3;
+    // T/A of a play, of a hold, and of neither.
+    const PLAYED: u64 = 0;
 
-    pub const NONE: u64 = 4;
+    const HELD: u64 = 1;
 
-    // No name has more numbers behind it.
-    pub const NUMBERS: usize = 2;
+    const NEITHER: u64 = 2;
+}
 
-    fn of(name: &[u8]) -> u64
-        ensures { λ r. ⌜ r ≡ kindOf (now (name .entry)) ⌝ }
-    {
-        if same(name, b"play") {
-            return Kind::PLAY;
-        }
-        if same(name, b"hold") {
-            return Kind::HOLD;
-        }
-        if same(name, b"repeat") {
-            return Kind::REPEAT;
-        }
-        if same(name, b"end") {
-            return Kind::END;
-        }
-        Kind::NONE
+fn pulse(ta: u64, address: u64, count: u64) -> Line
+    ensures { λ r. ⌜ r ≡ Line.Pulse (pulseOf ta (address ∷ count ∷ [])) ⌝ }
+{
+    Line::Pulse(WaveformFields {
+        op: EngineOp::PLAY,
+        ta,
+        count: QuadSamples(count),
+        address: QuadSamples(address),
+    })
+}
+
+// T/A, where the name of a play or hold stands at a place.
+fn held_at(text: &[u8], at: usize) -> u64
+    requires { ⌜ at ≤ length (now text) ⌝ }
+    ensures { λ r. ⌜ r ≡ heldIn (drop at (now (text .entry))) ⌝ }
+{
+    if starts_with(text, at, b"play\t") {
+        return Taken::PLAYED;
     }
-
-    fn numbers(kind: u64) -> usize
-        ensures { λ r. ⌜ r ≡ numbersOf kind ⌝ }
-    {
-        match kind {
-            Kind::PLAY => 2,
-            Kind::HOLD => 2,
-            Kind::REPEAT => 1,
-            _ => 0,
-        }
+    if starts_with(text, at, b"hold\t") {
+        return Taken::HELD;
     }
+    Taken::NEITHER
+}
 
-    fn pulse(ta: u64, address: u64, count: u64) -> Line
-        ensures { λ r. ⌜ r ≡ Line.Pulse (pulseOf ta (address ∷ count ∷ [])) ⌝ }
-    {
-        Line::Pulse(WaveformFields {
-            op: EngineOp::PLAY,
-            ta,
-            count: QuadSamples(count),
-            address: QuadSamples(address),
-        })
+// A play or hold whose name stands at a place.
+fn take_pulse(text: &[u8], at: usize, ta: u64) -> Taken
+    requires { ⌜ (ta ≡ heldIn (drop at (now text))) × (ta ≡ 2 → ⊥) ⌝ }
+    ensures { λ r. ⌜ Takes (now (text .entry)) at (r .line) (r .next) ⌝ }
+{
+    let address = number_then(text, at + Taken::PULSE, b'\t');
+    if !address.plain {
+        return Taken {
+            line: Line::Unshaped,
+            next: text.len(),
+        };
     }
-
-    fn line(kind: u64, first: u64, second: u64) -> Line
-        ensures { λ r. ⌜ r ≡ lineBy kind (first ∷ second ∷ []) ⌝ }
-    {
-        match kind {
-            Kind::PLAY => Kind::pulse(0, first, second),
-            Kind::HOLD => Kind::pulse(1, first, second),
-            Kind::REPEAT => Line::Repeat(first),
-            Kind::END => Line::End,
-            _ => Line::Unshaped,
-        }
+    let count = number_then(text, address.end, b'\n');
+    if !count.plain {
+        return Taken {
+            line: Line::Unshaped,
+            next: text.len(),
+        };
+    }
+    let line = pulse(ta, address.value, count.value);
+    Taken {
+        line,
+        next: count.end,
     }
 }
 
-// What a line says that has its line feed.
-pub fn line_of(line: &[u8]) -> Line
-    ensures { λ r. ⌜ r ≡ lineOf (record { bytes = now (line .entry); ended = true }) ⌝ }
+// A repeat whose name stands at a place.
+fn take_repeat(text: &[u8], at: usize) -> Taken
+    requires { ⌜ startsWith repeatName (drop at (now text)) ≡ true ⌝ }
+    ensures { λ r. ⌜ Takes (now (text .entry)) at (r .line) (r .next) ⌝ }
 {
-    let end = find(line, 0, b'\t');
-    let kind = Kind::of(&line[..end]);
-    let mut values = [0u64; Kind::NUMBERS];
-    if !read_numbers(line, end, Kind::numbers(kind), &mut values) {
-        return Line::Unshaped;
+    let count = number_then(text, at + Taken::REPEAT, b'\n');
+    if !count.plain {
+        return Taken {
+            line: Line::Unshaped,
+            next: text.len(),
+        };
     }
-    Kind::line(kind, values[0], values[1])
+    Taken {
+        line: Line::Repeat(count.value),
+        next: count.end,
+    }
+}
+
+// The line at a place before the text's end.
+pub fn take_line(text: &[u8], at: usize) -> Taken
+    requires { ⌜ at < length (now text) ⌝ }
+    ensures { λ r. ⌜ Takes (now (text .entry)) at (r .line) (r .next) ⌝ }
+{
+    let ta = held_at(text, at);
+    if ta != Taken::NEITHER {
+        return take_pulse(text, at, ta);
+    }
+    if starts_with(text, at, b"repeat\t") {
+        return take_repeat(text, at);
+    }
+    if starts_with(text, at, b"end\n") {
+        return Taken {
+            line: Line::End,
+            next: at + Taken::END,
+        };
+    }
+    Taken {
+        line: Line::Unshaped,
+        next: text.len(),
+    }
 }
 
 // 23, 16, 20 or 0, of a play or hold.
 fn pulse_number(f: WaveformFields, wave: QuadSamples) -> u64
     ensures { λ r. ⌜ r ≡ pulseNumber (wave .0) f ⌝ }
 {
-    let body = Body::Waveform(f);
-    let number = asked(
-        Instruction {
-            engine: 0,
-            write: 1,
-            body,
-        },
-        Rules::CURRENT,
-    );
-    if number != 0 {
-        return number;
+    if !waveform_fits(f) {
+        return Refusal::TOO_WIDE;
     }
-    Sequence::placing(wave, 0, body)
+    let form = f.form();
+    if form != 0 {
+        return form;
+    }
+    Sequence::placing(wave, 0, Body::Waveform(f))
 }
 
 // 51, 53 or 0, with so many repeats open.

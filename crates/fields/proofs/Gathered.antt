@@ -86,13 +86,13 @@ module _ (line : List ℕ) (from count : ℕ) (before : List ℕ) (h : from ≤ 
           refuted
           (ap (λ (t : Bool). eqb (length (fieldsAfter from line)) count && t)
           (ap allNumbers next ∙ all-join (g .done) (field ∷ rest)
-          ∙ ap (λ (t : Bool). allNumbers (g .done) && (t && allNumbers rest)) (number-not (at + 1) line n p) ∙ and-false (allNumbers (g .done)))
+          ∙ ap (λ (t : Bool). allNumbers (g .done) && (t && allNumbers rest)) (number-not tab (at + 1) line n p) ∙ and-false (allNumbers (g .done)))
           ∙ and-false (eqb (length (fieldsAfter from line)) count))
 
       -- the next is one
       module _ (p : r .plain ≡ true) where
         said : (isNumber field ≡ true) × (r .value ≡ value field) × (r .end ≡ placeOf tab (at + 1) line)
-        said = number-said (at + 1) line n p
+        said = number-said tab (at + 1) line n p
 
         pub gather-next : k < count → Gathered line from count before (set values k (r .value)) (r .end) (k + 1)
         gather-next m =

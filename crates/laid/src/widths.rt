@@ -21,7 +21,7 @@ fn address_fits(a: WordAddress) -> bool
     a.0 < 1 << WordAddress::PLACE.width
 }
 
-fn waveform_fits(f: WaveformFields) -> bool
+pub fn waveform_fits(f: WaveformFields) -> bool
     ensures { λ r. ⌜ r ≡ bodyFits (Body.Waveform f) ⌝ }
 {
     (f.op < 1 << EngineOp::PLACE.width)

@@ -128,3 +128,47 @@ pub fn word_of(i: Instruction) -> u64
     }
     body_onto(body, header(code, i.engine, i.write))
 }
+
+// ---- The word of an instruction whose name is known.
+
+pub fn waveform_word(f: WaveformFields, engine: u64, write: u64) -> u64
+    ensures { λ r. ⌜ r ≡ wordOf (record { engine = engine; write = write; body = Body.Waveform f }) ⌝ }
+{
+    waveform_onto(f, header(Body::WAVEFORM, engine, write))
+}
+
+pub fn load_repeat_word(n: Repeats, engine: u64, write: u64) -> u64
+    ensures { λ r. ⌜ r ≡ wordOf (record { engine = engine; write = write; body = Body.LoadRepeat n }) ⌝ }
+{
+    repeats_onto(n, header(Body::LOAD_REPEAT, engine, write))
+}
+
+pub fn repeat_word(a: WordAddress, engine: u64, write: u64) -> u64
+    ensures { λ r. ⌜ r ≡ wordOf (record { engine = engine; write = write; body = Body.Repeat a }) ⌝ }
+{
+    address_onto(a, header(Body::REPEAT, engine, write))
+}
+
+pub fn goto_word(a: WordAddress, engine: u64, write: u64) -> u64
+    ensures { λ r. ⌜ r ≡ wordOf (record { engine = engine; write = write; body = Body.Goto a }) ⌝ }
+{
+    address_onto(a, header(Body::GOTO, engine, write))
+}
+
+pub fn call_word(a: WordAddress, engine: u64, write: u64) -> u64
+    ensures { λ r. ⌜ r ≡ wordOf (record { engine = engine; write = write; body = Body.Call a }) ⌝ }
+{
+    address_onto(a, header(Body::CALL, engine, write))
+}
+
+pub fn return_word(p: Ignored, engine: u64, write: u64) -> u64
+    ensures { λ r. ⌜ r ≡ wordOf (record { engine = engine; write = write; body = Body.Return p }) ⌝ }
+{
+    ignored_onto(p, header(Body::RETURN, engine, write))
+}
+
+pub fn sync_word(engine: u64, write: u64) -> u64
+    ensures { λ r. ⌜ r ≡ wordOf (record { engine = engine; write = write; body = Body.Sync }) ⌝ }
+{
+    own_op_onto(EngineOp::WAIT_SYNC, header(Body::SYNC, engine, write))
+}

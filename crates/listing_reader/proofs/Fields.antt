@@ -108,11 +108,11 @@ module _ (rules : Rules) (line : List ℕ) (a : ℕ) {r : Counted} (n : r ≡ co
   by-fields fs e = ap (fieldsRead rules a true) (sym e)
 
   pub line-not : r .plain ≡ false → notWritten 61 ≡ lineRead rules a whole
-  line-not p = fields-61 rules a address (fieldsAfter (placeOf tab 0 line) line) (number-not 0 line n p) ∙ by-fields _ (first-field line)
+  line-not p = fields-61 rules a address (fieldsAfter (placeOf tab 0 line) line) (number-not tab 0 line n p) ∙ by-fields _ (first-field line)
 
   module _ (p : r .plain ≡ true) where
     s : (isNumber address ≡ true) × (r .value ≡ value address) × (r .end ≡ placeOf tab 0 line)
-    s = number-said 0 line n p
+    s = number-said tab 0 line n p
 
     start : cut tab line ≡ address ∷ fieldsAfter (r .end) line
     start = first-field line ∙ ap (λ (i : ℕ). address ∷ fieldsAfter i line) (sym (s .2))

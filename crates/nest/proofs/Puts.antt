@@ -10,7 +10,7 @@ use Rattle.instruction.specs.Word.{wordOf}
 use Rattle.instruction.specs.declared.Instruction.{Instruction}
 use Rattle.instruction.specs.declared.Body.the-variants.{LoadRepeat, Repeat, Call}
 use Rattle.nest.specs.Block.{low}
-use Rattle.nest.specs.Layout.{Sheet, sheet, put, opening}
+use Rattle.nest.specs.Layout.{sheet, put, opening}
 
 -- ---- room
 
@@ -28,22 +28,15 @@ module _ (level : ℕ) (heads words : List ℕ) where
       → sheet (set heads level (getD heads level 0 + 1)) (set words (getD heads level 0) w) ≡ put level (i ∷ []) (sheet heads words)
   put-single i e = ap (λ (x : ℕ). sheet (set heads level (getD heads level 0 + 1)) (set words (getD heads level 0) x)) e
 
-  pub put-same : {i j : Instruction} {s : Sheet} → s ≡ put level (i ∷ []) (sheet heads words) → i ≡ j → s ≡ put level (j ∷ []) (sheet heads words)
-  put-same e f = e ∙ ap (λ (k : Instruction). put level (k ∷ []) (sheet heads words)) f
-
   -- the three words of a repeat, one behind the other
-  pub put-opening : (n body : ℕ) {x y z : Instruction} {a b c : ℕ} → body ≡ getD heads (suc level) 0
-      → a ≡ wordOf x → x ≡ low (LoadRepeat (record { 0 = n - 1 })) → b ≡ wordOf y → y ≡ low (Call (record { 0 = body }))
-      → c ≡ wordOf z → z ≡ low (Repeat (record { 0 = getD heads level 0 + 1 }))
+  pub put-opening : (n body : ℕ) {a b c : ℕ} → body ≡ getD heads (suc level) 0
+      → a ≡ wordOf (low (LoadRepeat (record { 0 = n - 1 }))) → b ≡ wordOf (low (Call (record { 0 = body }))) → c ≡ wordOf (low (Repeat (record { 0 = getD heads level 0 + 1 })))
       → sheet (set heads level (getD heads level 0 + 3)) (set (set (set words (getD heads level 0) a) (getD heads level 0 + 1) b) (getD heads level 0 + 2) c)
       ≡ put level (opening n (getD heads level 0) (getD heads (suc level) 0)) (sheet heads words)
-  put-opening n body e ax ex by ey cz ez =
+  put-opening n body e x y z =
       let p = getD heads level 0 in
-      (λ j. sheet (set heads level (p + 3)) (set (set (set words p (word ax ex j)) (add-one p j) (word by ey j)) (two p j) (word cz ez j)))
+      (λ j. sheet (set heads level (p + 3)) (set (set (set words p (x j)) (add-one p j) (y j)) (two p j) (z j)))
       ∙ ap (λ (t : ℕ). put level (opening n p t) (sheet heads words)) e
     where
-      word : {w : ℕ} {i k : Instruction} → w ≡ wordOf i → i ≡ k → w ≡ wordOf k
-      word e f = e ∙ ap wordOf f
-
       two : (p : ℕ) → p + 2 ≡ suc (suc p)
       two p = omega arith

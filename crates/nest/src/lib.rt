@@ -4,7 +4,8 @@ ghost use mathlib.Core.Path.{_≡_};
 ghost use mathlib.Core.List.{[], _∷_};
 ghost use Prim.Native.Nat.{suc, _+_, _≤_, _<_};
 ghost use lib.ListN.{length, getD};
-ghost use Rattle.nest.specs.Block.{nestLimit, high, low};
+ghost use Rattle.instruction.specs.Word.{wordOf};
+ghost use Rattle.nest.specs.Block.{nestLimit, high};
 ghost use Rattle.nest.specs.Layout.{sheet, put, opening, closing, parked};
 use instruction::Body;
 use instruction::Ignored;
@@ -12,7 +13,13 @@ use instruction::Instruction;
 use instruction::Repeats;
 use instruction::WaveformFields;
 use instruction::WordAddress;
-use laid::word::word_of;
+use laid::word::call_word;
+use laid::word::goto_word;
+use laid::word::load_repeat_word;
+use laid::word::repeat_word;
+use laid::word::return_word;
+use laid::word::sync_word;
+use laid::word::waveform_word;
 use sequence::Sequence;
 
 pub struct Nest;
@@ -26,6 +33,13 @@ impl Nest {
 
     // The main line, and one more for each repeat around a line.
     pub const LEVELS: usize = Nest::DEEPEST + 1;
+
+    // Engine select of every word, and the write flag: high on SYNC, play and hold only.
+    const ENGINE: u64 = 0;
+
+    const HIGH: u64 = 1;
+
+    const LOW: u64 = 0;
 
     pub const UNSHAPED: u64 = 50;
 
@@ -48,35 +62,13 @@ pub enum Line {
     Unshaped,
 }
 
-// An instruction that sends: SYNC, play and hold.
-fn sends(body: Body) -> Instruction
-    ensures { λ r. ⌜ r ≡ high body ⌝ }
-{
-    Instruction {
-        engine: 0,
-        write: 1,
-        body,
-    }
-}
-
-// An instruction of flow.
-fn flows(body: Body) -> Instruction
-    ensures { λ r. ⌜ r ≡ low body ⌝ }
-{
-    Instruction {
-        engine: 0,
-        write: 0,
-        body,
-    }
-}
-
-// An instruction's word, at the next place of a level.
-fn put_one(i: Instruction, level: usize, heads: &mut [usize; Nest::LEVELS], words: &mut [u64])
+// A word, at the next place of a level.
+fn put_one(word: u64, level: usize, heads: &mut [usize; Nest::LEVELS], words: &mut [u64])
     requires { ⌜ (level ≤ nestLimit) × (getD (now heads) level 0 < length (now words)) ⌝ }
-    ensures { λ _. ⌜ sheet (now (heads .exit)) (now (words .exit)) ≡ put level (i ∷ []) (sheet (now (heads .entry)) (now (words .entry))) ⌝ }
+    ensures { λ _. ⌜ ((i : Instruction) → word ≡ wordOf i → sheet (now (heads .exit)) (now (words .exit)) ≡ put level (i ∷ []) (sheet (now (heads .entry)) (now (words .entry)))) ⌝ }
 {
     let here = heads[level];
-    words[here] = word_of(i);
+    words[here] = word;
     heads[level] = here + 1;
 }
 
@@ -84,7 +76,7 @@ pub fn put_sync(heads: &mut [usize; Nest::LEVELS], words: &mut [u64])
     requires { ⌜ getD (now heads) 0 0 < length (now words) ⌝ }
     ensures { λ _. ⌜ sheet (now (heads .exit)) (now (words .exit)) ≡ put 0 (high Body.Sync ∷ []) (sheet (now (heads .entry)) (now (words .entry))) ⌝ }
 {
-    put_one(sends(Body::Sync), 0, heads, words);
+    put_one(sync_word(Nest::ENGINE, Nest::HIGH), 0, heads, words);
 }
 
 // A GOTO to itself.
@@ -93,7 +85,7 @@ pub fn put_park(heads: &mut [usize; Nest::LEVELS], words: &mut [u64])
     ensures { λ _. ⌜ sheet (now (heads .exit)) (now (words .exit)) ≡ parked (sheet (now (heads .entry)) (now (words .entry))) ⌝ }
 {
     let here = WordAddress(heads[0] as u64);
-    put_one(flows(Body::Goto(here)), 0, heads, words);
+    put_one(goto_word(here, Nest::ENGINE, Nest::LOW), 0, heads, words);
 }
 
 pub fn put_pulse(
@@ -105,7 +97,12 @@ pub fn put_pulse(
     requires { ⌜ (level ≤ nestLimit) × (getD (now heads) level 0 < length (now words)) ⌝ }
     ensures { λ _. ⌜ sheet (now (heads .exit)) (now (words .exit)) ≡ put level (high (Body.Waveform f) ∷ []) (sheet (now (heads .entry)) (now (words .entry))) ⌝ }
 {
-    put_one(sends(Body::Waveform(f)), level, heads, words);
+    put_one(
+        waveform_word(f, Nest::ENGINE, Nest::HIGH),
+        level,
+        heads,
+        words,
+    );
 }
 
 // The RETURN that ends a body.
@@ -113,7 +110,12 @@ pub fn close_repeat(level: usize, heads: &mut [usize; Nest::LEVELS], words: &mut
     requires { ⌜ (level ≤ nestLimit) × (getD (now heads) level 0 < length (now words)) ⌝ }
     ensures { λ _. ⌜ sheet (now (heads .exit)) (now (words .exit)) ≡ put level closing (sheet (now (heads .entry)) (now (words .entry))) ⌝ }
 {
-    put_one(flows(Body::Return(Ignored(0))), level, heads, words);
+    put_one(
+        return_word(Ignored(0), Nest::ENGINE, Nest::LOW),
+        level,
+        heads,
+        words,
+    );
 }
 
 // The words of a repeat in the line around it: the count, the CALL of its body, and the REPEAT onto that CALL.
@@ -124,8 +126,8 @@ pub fn open_repeat(n: u64, level: usize, heads: &mut [usize; Nest::LEVELS], word
     let here = heads[level];
     let call = here + 1;
     let body = heads[level + 1];
-    words[here] = word_of(flows(Body::LoadRepeat(Repeats(n - 1))));
-    words[call] = word_of(flows(Body::Call(WordAddress(body as u64))));
-    words[here + 2] = word_of(flows(Body::Repeat(WordAddress(call as u64))));
+    words[here] = load_repeat_word(Repeats(n - 1), Nest::ENGINE, Nest::LOW);
+    words[call] = call_word(WordAddress(body as u64), Nest::ENGINE, Nest::LOW);
+    words[here + 2] = repeat_word(WordAddress(call as u64), Nest::ENGINE, Nest::LOW);
     heads[level] = here + 3;
 }

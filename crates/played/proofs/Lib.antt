@@ -5,3 +5,4 @@ pub mod Steps
 pub mod Runs
 pub mod Walks
 pub mod Played
+pub mod Worked

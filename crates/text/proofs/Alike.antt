@@ -1,16 +1,16 @@
 -- Laws of two texts that are the same.
 -- Assumes nothing.
-use Prim.Native.Nat.{ℕ, zero, suc, _+_, _≤_, _<_}
+use Prim.Native.Nat.{ℕ, zero, suc, _+_, _-_, _≤_, _<_}
 use mathlib.Core.Path.{_≡_, refl, sym, ap, ap₂, _∙_}
 use mathlib.Core.Bool.{Bool, true, false, _&&_}
-use mathlib.Core.List.{List, [], _∷_}
+use mathlib.Core.List.{List, [], _∷_, _++_}
 use native.Mathlib.Omega.{arith}
 use native.Mathlib.Numerals.{add-one}
 use borrow.Author.Tests.{eq-eqb, ne-eqb, eqb-true}
 use lib.Dec.{eqb}
-use lib.ListN.{length, drop, getD}
+use lib.ListN.{length, take, drop, getD, length-drop}
 use lib.Seq.{drop-cons}
-use Rattle.text.specs.Cut.{sameText}
+use Rattle.text.specs.Cut.{sameText, startsWith}
 
 pub ended : (text : List ℕ) (i : ℕ) → length text ≤ i → drop i text ≡ []
 ended [] zero h = refl
@@ -58,3 +58,40 @@ same-text (x ∷ xs) (y ∷ ys) e = by (eqb x y) refl e (same-text xs ys)
 pub same-self : (a : List ℕ) → sameText a a ≡ true
 same-self [] = refl
 same-self (x ∷ xs) = rw (eq-eqb x x refl) (same-self xs)
+
+-- ---- a text that starts with another
+
+starts-short : (name bs : List ℕ) → length bs < length name → false ≡ startsWith name bs
+starts-short [] bs h = absurd (omega arith)
+starts-short (x ∷ name) [] h = refl
+starts-short (x ∷ name) (b ∷ bs) h = by (eqb b x) (starts-short name bs (omega arith))
+  where
+    by : (t : Bool) → false ≡ startsWith name bs → false ≡ (t && startsWith name bs)
+    by true ih = ih
+    by false ih = refl
+
+starts-same : (name bs : List ℕ) → length name ≤ length bs → sameText (take (length name) bs) name ≡ startsWith name bs
+starts-same [] bs h = refl
+starts-same (x ∷ name) [] h = absurd (omega arith)
+starts-same (x ∷ name) (b ∷ bs) h = ap (λ (t : Bool). eqb b x && t) (starts-same name bs (omega arith))
+
+module _ (name text : List ℕ) (at : ℕ) where
+  pub starts-none : length text - at < length name → false ≡ startsWith name (drop at text)
+  starts-none h = starts-short name (drop at text) (omega (arith, length-drop at text))
+
+  pub starts-at : length name ≤ length text - at → sameText (take (at + length name - at) (drop at text)) name ≡ startsWith name (drop at text)
+  starts-at h = ap (λ (k : ℕ). sameText (take k (drop at text)) name) (back at (length name)) ∙ starts-same name (drop at text) (omega (arith, length-drop at text))
+    where
+      back : (a b : ℕ) → a + b - a ≡ b
+      back a b = omega arith
+
+-- what stands behind the name
+pub starts-text : (name bs : List ℕ) → startsWith name bs ≡ true → bs ≡ name ++ drop (length name) bs
+starts-text [] bs e = refl
+starts-text (x ∷ name) [] e = absurd (let z : _≡_ {A = ℕ} 0 1 = cc in omega arith)
+starts-text (x ∷ name) (b ∷ bs) e = by (eqb b x) refl e (starts-text name bs)
+  where
+    by : (t : Bool) → eqb b x ≡ t → (t && startsWith name bs) ≡ true → (startsWith name bs ≡ true → bs ≡ name ++ drop (length name) bs)
+        → (b ∷ bs) ≡ x ∷ (name ++ drop (length name) bs)
+    by true f g ih = ap₂ (λ (a : ℕ) (l : List ℕ). a ∷ l) (eqb-true b x f) (ih g)
+    by false f g ih = absurd (let z : _≡_ {A = ℕ} 0 1 = cc in omega arith)

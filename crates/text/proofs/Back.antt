@@ -1,23 +1,24 @@
 -- What is written is read back: its lines, their fields, and the number in a field; and a field that is read as a number
 -- is the text of that number.
 -- Assumes nothing.
-use Prim.Native.Nat.{ℕ, _+_, _<_}
+use Prim.Native.Nat.{ℕ, _+_, _≤_, _<_}
 use Prim.Native.String.{String}
 use mathlib.Core.Path.{_≡_, refl, sym, ap, _∙_}
 use mathlib.Core.Bool.{Bool, true, false, not, _||_, _&&_}
 use mathlib.Core.List.{List, [], _∷_, _++_, map, append-assoc}
 use native.Mathlib.Omega.{arith}
-use borrow.Author.Tests.{lt-ltb, ne-eqb}
+use borrow.Author.Tests.{lt-ltb, ltb-true, ne-eqb}
 use lib.Dec.{ltb, eqb}
+use lib.ListN.{length, drop, length-append, length-drop}
 use Rattle.instruction.specs.Bits.{pick}
-use Rattle.text.specs.Cut.{tab, lineFeed, cut, placeOf, rowsIn}
-use Rattle.text.specs.Number.{isDigit, allDigits, plain, value, numbers, isNumber, uncounted, fieldAt, countedAt}
+use Rattle.text.specs.Cut.{tab, lineFeed, cut, before, placeOf, rowsIn}
+use Rattle.text.specs.Number.{isDigit, allDigits, plain, value, numbers, isNumber, counted, uncounted, fieldTo, countedTo, NumberThen}
 use Rattle.text.specs.declared.Counted.{Counted}
 use Rattle.text.specs.Line.{Entry, name, number, letters, decimal, entryText, lineText, Line}
-use Rattle.text.proofs.Cuts.{has, joined, noneHas, cut-joined}
+use Rattle.text.proofs.Cuts.{has, has-whole, before-piece, joined, noneHas, cut-joined, found-order, found-has, found-behind}
 use Rattle.text.proofs.Decimals.{decimal-value, decimal-digits, decimal-plain, plain-decimal}
 use Rattle.text.proofs.Rows.{rows-line}
-use Rattle.text.proofs.Bools.{both}
+use Rattle.text.proofs.Bools.{both, never}
 
 -- ---- numbers
 
@@ -30,23 +31,23 @@ pub number-text : (bs : List ℕ) → isNumber bs ≡ true → decimal (value bs
 number-text bs e = plain-decimal bs (both (plain bs) (ltb (value bs) numbers) e .0)
 
 -- what a field says, as it is told
-pub number-said : (from : ℕ) (line : List ℕ) {r : Counted} → r ≡ countedAt from line → r .plain ≡ true
-    → (isNumber (fieldAt from line) ≡ true) × (r .value ≡ value (fieldAt from line)) × (r .end ≡ placeOf tab from line)
-number-said from line {r = r} e p = by (isNumber (fieldAt from line)) refl e
+pub number-said : (x from : ℕ) (text : List ℕ) {r : Counted} → r ≡ countedTo x from text → r .plain ≡ true
+    → (isNumber (fieldTo x from text) ≡ true) × (r .value ≡ value (fieldTo x from text)) × (r .end ≡ placeOf x from text)
+number-said x from text {r = r} e p = by (isNumber (fieldTo x from text)) refl e
   where
-    by : (t : Bool) → isNumber (fieldAt from line) ≡ t
-        → r ≡ pick t (record { plain = true; value = value (fieldAt from line); end = placeOf tab from line }) (uncounted from)
-        → (isNumber (fieldAt from line) ≡ true) × (r .value ≡ value (fieldAt from line)) × (r .end ≡ placeOf tab from line)
-    by true f g = (f, ap (λ (x : Counted). x .value) g, ap (λ (x : Counted). x .end) g)
-    by false f g = absurd (let c : true ≡ false = sym p ∙ ap (λ (x : Counted). x .plain) g in let z : _≡_ {A = ℕ} 0 1 = cc in omega arith)
+    by : (t : Bool) → isNumber (fieldTo x from text) ≡ t
+        → r ≡ pick t (counted (value (fieldTo x from text)) (placeOf x from text)) (uncounted from)
+        → (isNumber (fieldTo x from text) ≡ true) × (r .value ≡ value (fieldTo x from text)) × (r .end ≡ placeOf x from text)
+    by true f g = (f, ap (λ (c : Counted). c .value) g, ap (λ (c : Counted). c .end) g)
+    by false f g = never (sym p ∙ ap (λ (c : Counted). c .plain) g)
 
-pub number-not : (from : ℕ) (line : List ℕ) {r : Counted} → r ≡ countedAt from line → r .plain ≡ false → isNumber (fieldAt from line) ≡ false
-number-not from line {r = r} e p = by (isNumber (fieldAt from line)) refl e
+pub number-not : (x from : ℕ) (text : List ℕ) {r : Counted} → r ≡ countedTo x from text → r .plain ≡ false → isNumber (fieldTo x from text) ≡ false
+number-not x from text {r = r} e p = by (isNumber (fieldTo x from text)) refl e
   where
-    by : (t : Bool) → isNumber (fieldAt from line) ≡ t
-        → r ≡ pick t (record { plain = true; value = value (fieldAt from line); end = placeOf tab from line }) (uncounted from)
-        → isNumber (fieldAt from line) ≡ false
-    by true f g = absurd (let c : true ≡ false = sym (ap (λ (x : Counted). x .plain) g) ∙ p in let z : _≡_ {A = ℕ} 0 1 = cc in omega arith)
+    by : (t : Bool) → isNumber (fieldTo x from text) ≡ t
+        → r ≡ pick t (counted (value (fieldTo x from text)) (placeOf x from text)) (uncounted from)
+        → isNumber (fieldTo x from text) ≡ false
+    by true f g = never (sym (ap (λ (c : Counted). c .plain) g) ∙ p)
     by false f g = f
 
 -- ---- lines and their fields
@@ -84,6 +85,49 @@ digits-free x (b ∷ bs) e f =
     let g = both (isDigit b) (allDigits bs) f in
     rw (free-of x b e (g .0)) (digits-free x bs e (g .1))
 
+pub decimal-free : (x n : ℕ) → isDigit x ≡ false → has x (decimal n) ≡ false
+decimal-free x n e = digits-free x (decimal n) e (decimal-digits n)
+
+-- ---- a number with a byte behind it
+
+module _ (x from : ℕ) (text : List ℕ) (h : from ≤ length text) (n : isDigit x ≡ false) {r : Counted} (e : r ≡ countedTo x from text) where
+  pub then-found : r .plain ≡ true → r .end < length text → {u : Counted} → u ≡ counted (r .value) (r .end + 1) → NumberThen x from text u
+  then-found p l {u = u} f =
+      let s = number-said x from text e p in
+      rw f
+      record {
+        order = omega (arith, found-order x from text (s .2));
+        inside = omega (arith, l);
+        small = omega (arith, s .1, ltb-true (value (fieldTo x from text)) numbers (both (plain (fieldTo x from text)) (ltb (value (fieldTo x from text)) numbers) (s .0) .1));
+        found = λ t.
+            has-whole x (drop from text) (found-has x from text (s .2) l)
+            ∙ ap (λ (bs : List ℕ). fieldTo x from text ++ (x ∷ bs)) (found-behind x from text (s .2) l)
+            ∙ ap (λ (bs : List ℕ). bs ++ (x ∷ drop (r .end + 1) text)) (sym (number-text (fieldTo x from text) (s .0)) ∙ ap decimal (sym (s .1)));
+        none = λ t. never t;
+      }
+
+  -- a number that stands there is found
+  stood : (k : ℕ) (more : List ℕ) → k < numbers → drop from text ≡ decimal k ++ (x ∷ more) → (r .plain ≡ true) × (r .end < length text)
+  stood k more l s = (ap (λ (c : Counted). c .plain) whole, omega (arith, far, ap (λ (c : Counted). c .end) whole))
+    where
+      piece : fieldTo x from text ≡ decimal k
+      piece = ap (before x) s ∙ before-piece x (decimal k) more (decimal-free x k n)
+
+      whole : r ≡ counted (value (fieldTo x from text)) (placeOf x from text)
+      whole = e ∙ ap (λ (t : Bool). pick t (counted (value (fieldTo x from text)) (placeOf x from text)) (uncounted from)) (ap isNumber piece ∙ number-back k l)
+
+      far : placeOf x from text < length text
+      far = omega (arith, h, ap length piece, ap length s, length-append (decimal k) (x ∷ more), length-drop from text)
+
+  unread : ((k : ℕ) (more : List ℕ) → k < numbers → drop from text ≡ decimal k ++ (x ∷ more) → ⊥) → {u : Counted} → u ≡ uncounted from → NumberThen x from text u
+  unread m {u = u} f = rw f record { order = omega arith; inside = h; small = omega arith; found = λ t. never (sym t); none = λ t. m }
+
+  pub then-not : r .plain ≡ false → {u : Counted} → u ≡ uncounted from → NumberThen x from text u
+  then-not p f = unread (λ k more l s. never (sym (stood k more l s .0) ∙ p)) f
+
+  pub then-last : length text ≤ r .end → {u : Counted} → u ≡ uncounted from → NumberThen x from text u
+  then-last p f = unread (λ k more l s. omega (arith, p, stood k more l s .1)) f
+
 -- neither of two
 neither : (a b : Bool) → not (a || b) ≡ true → (a ≡ false) × (b ≡ false)
 neither true b e = absurd (let z : _≡_ {A = ℕ} 0 1 = cc in omega arith)
@@ -92,7 +136,7 @@ neither false false e = (refl, refl)
 
 entry-free : (e : Entry) → clean e ≡ true → (has tab (entryText e) ≡ false) × (has lineFeed (entryText e) ≡ false)
 entry-free (name s) c = neither (has tab (letters s)) (has lineFeed (letters s)) c
-entry-free (number n) c = (digits-free tab (decimal n) refl (decimal-digits n), digits-free lineFeed (decimal n) refl (decimal-digits n))
+entry-free (number n) c = (decimal-free tab n refl, decimal-free lineFeed n refl)
 
 -- ---- a line
 

@@ -49,6 +49,33 @@ cut-first x (b ∷ bs) = by (eqb b x) (cut-first x bs)
     by true ih = refl
     by false ih = ap (onto b) ih
 
+-- a text that has it is what stands before it, it, and what stands behind
+pub has-whole : (x : ℕ) (bs : List ℕ) → has x bs ≡ true → bs ≡ before x bs ++ (x ∷ behind x bs)
+has-whole x [] e = never (sym e)
+has-whole x (b ∷ bs) e = by (eqb b x) refl e (has-whole x bs)
+  where
+    by : (t : Bool) → eqb b x ≡ t → (t || has x bs) ≡ true → (has x bs ≡ true → bs ≡ before x bs ++ (x ∷ behind x bs))
+        → (b ∷ bs) ≡ pick t [] (b ∷ before x bs) ++ (x ∷ pick t bs (behind x bs))
+    by true f g ih = ap (λ (k : ℕ). k ∷ bs) (eqb-true b x f)
+    by false f g ih = ap (λ (l : List ℕ). b ∷ l) (ih g)
+
+-- and before it stands a piece without it
+pub before-piece : (x : ℕ) (p bs : List ℕ) → has x p ≡ false → before x (p ++ (x ∷ bs)) ≡ p
+before-piece x [] bs e = rw (eq-eqb x x refl)
+before-piece x (b ∷ p) bs e = by (eqb b x) e (before-piece x p bs)
+  where
+    by : (t : Bool) → (t || has x p) ≡ false → (has x p ≡ false → before x (p ++ (x ∷ bs)) ≡ p) → pick t [] (b ∷ before x (p ++ (x ∷ bs))) ≡ b ∷ p
+    by true f ih = never f
+    by false f ih = ap (λ (l : List ℕ). b ∷ l) (ih f)
+
+pub behind-piece : (x : ℕ) (p bs : List ℕ) → has x p ≡ false → behind x (p ++ (x ∷ bs)) ≡ bs
+behind-piece x [] bs e = rw (eq-eqb x x refl)
+behind-piece x (b ∷ p) bs e = by (eqb b x) e (behind-piece x p bs)
+  where
+    by : (t : Bool) → (t || has x p) ≡ false → (has x p ≡ false → behind x (p ++ (x ∷ bs)) ≡ bs) → pick t (p ++ (x ∷ bs)) (behind x (p ++ (x ∷ bs))) ≡ bs
+    by true f ih = never f
+    by false f ih = ih f
+
 -- ---- joined, and cut
 
 -- a piece without the byte, the byte, and more

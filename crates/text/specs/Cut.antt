@@ -54,6 +54,12 @@ sameText [] (y ∷ ys) = false
 sameText (x ∷ xs) [] = false
 sameText (x ∷ xs) (y ∷ ys) = eqb x y && sameText xs ys
 
+-- whether a text starts with another
+abbrev pub startsWith : List ℕ → List ℕ → Bool
+startsWith [] bs = true
+startsWith (x ∷ xs) [] = false
+startsWith (x ∷ xs) (b ∷ bs) = eqb b x && startsWith xs bs
+
 -- what stands before the first of a byte, all where there is none
 abbrev pub before : ℕ → List ℕ → List ℕ
 before x [] = []

@@ -2,11 +2,12 @@
 use Prim.Native.Nat.{ℕ, _+_, _*_, _-_, _^_, _≤_, _<_}
 use mathlib.Core.Path.{_≡_}
 use mathlib.Core.Bool.{Bool, true, false, not, _&&_}
-use mathlib.Core.List.{List, [], _∷_}
+use mathlib.Core.List.{List, [], _∷_, _++_}
 use lib.Dec.{ltb, leb, eqb}
-use lib.ListN.{length, drop}
+use lib.ListN.{length, drop, getD}
 use Rattle.instruction.specs.Bits.{pick}
 use Rattle.text.specs.Cut.{tab, before, placeOf}
+use Rattle.text.specs.Line.{decimal}
 use Rattle.text.specs.declared.Counted.{Counted}
 
 -- from one letter to another
@@ -48,22 +49,39 @@ isNumber bs = plain bs && ltb (value bs) numbers
 
 -- ---- what the functions tell
 
+abbrev pub counted : ℕ → ℕ → Counted
+counted v end = record { plain = true; value = v; end = end }
+
 abbrev pub uncounted : ℕ → Counted
 uncounted from = record { plain = false; value = 0; end = from }
 
--- a field of a line, from a place on
-abbrev pub fieldAt : ℕ → List ℕ → List ℕ
-fieldAt from line = before tab (drop from line)
+-- what stands from a place on, up to a byte or the text's end
+abbrev pub fieldTo : ℕ → ℕ → List ℕ → List ℕ
+fieldTo x from text = before x (drop from text)
 
 -- whether it is a number, which, and where it ends
-abbrev pub countedAt : ℕ → List ℕ → Counted
-countedAt from line =
-    pick (isNumber (fieldAt from line)) (record { plain = true; value = value (fieldAt from line); end = placeOf tab from line }) (uncounted from)
+abbrev pub countedTo : ℕ → ℕ → List ℕ → Counted
+countedTo x from text =
+    pick (isNumber (fieldTo x from text)) (counted (value (fieldTo x from text)) (placeOf x from text)) (uncounted from)
 
--- a field that ends there, all digits, and its value
-pub record Spelled (from end v : ℕ) (line : List ℕ) : Type 0 where
-  pub inside : from ≤ length line
-  pub place : end ≡ placeOf tab from line
-  pub digits : allDigits (fieldAt from line) ≡ true
-  pub said : v ≡ value (fieldAt from line)
-  pub small : v < numbers
+-- a field of a line, from a place on
+abbrev pub fieldAt : ℕ → List ℕ → List ℕ
+fieldAt from line = fieldTo tab from line
+
+abbrev pub countedAt : ℕ → List ℕ → Counted
+countedAt from line = countedTo tab from line
+
+-- a digit that stands at a place, of so much
+pub record Led (x from first : ℕ) (text : List ℕ) : Type 0 where
+  pub inside : from < length text
+  pub other : isDigit x ≡ false
+  pub digit : isDigit (getD text from 0) ≡ true
+  pub said : first ≡ getD text from 0 - 48
+
+-- a number with a byte behind it was read from a place on, up to what follows; or there is none
+pub record NumberThen (x from : ℕ) (text : List ℕ) (r : Counted) : Type 0 where
+  pub order : from ≤ r .end
+  pub inside : r .end ≤ length text
+  pub small : r .value < numbers
+  pub found : r .plain ≡ true → drop from text ≡ decimal (r .value) ++ (x ∷ drop (r .end) text)
+  pub none : r .plain ≡ false → (n : ℕ) (more : List ℕ) → n < numbers → drop from text ≡ decimal n ++ (x ∷ more) → ⊥

@@ -1,12 +1,12 @@
 // Text that people write, as bytes: where a line or a field ends, whether two texts are the same, and what a field says as a number.
 // A text is cut into lines at line feeds and a line into fields at tabs; what the fields mean is for its readers to say.
 ghost use mathlib.Core.Path.{_≡_};
-ghost use mathlib.Core.Bool.{true};
+ghost use mathlib.Core.Bool.{true, false};
 ghost use Prim.Native.Nat.{_≤_, _<_, _+_, _*_, _-_};
 ghost use lib.Dec.{ltb};
-ghost use lib.ListN.{length};
-ghost use Rattle.text.specs.Cut.{placeOf, sameText, stride};
-ghost use Rattle.text.specs.Number.{isDigit, noLeadingZero, numbers, uncounted, countedAt, Spelled};
+ghost use lib.ListN.{length, drop};
+ghost use Rattle.text.specs.Cut.{placeOf, sameText, startsWith, stride};
+ghost use Rattle.text.specs.Number.{isDigit, numbers, counted, uncounted, countedTo, countedAt, Led, NumberThen};
 
 // How many bytes are passed over at a time.
 const STRIDE: usize = 4;
@@ -68,6 +68,17 @@ pub fn same(a: &[u8], b: &[u8]) -> bool
     true
 }
 
+// Whether another text stands at a place.
+pub fn starts_with(text: &[u8], at: usize, name: &[u8]) -> bool
+    requires { ⌜ at ≤ length (now text) ⌝ }
+    ensures { λ r. ⌜ r ≡ startsWith (now (name .entry)) (drop at (now (text .entry))) ⌝ }
+{
+    if text.len() - at < name.len() {
+        return false;
+    }
+    same(&text[at..at + name.len()], name)
+}
+
 // A field from a place on: whether it is a number in plain decimal, which, and where it ends.
 pub struct Counted {
     pub plain: bool,
@@ -77,6 +88,9 @@ pub struct Counted {
 
 impl Counted {
     pub const BASE: u64 = 10;
+
+    // The digit of nothing.
+    const ZERO: u64 = 48;
 
     fn not(from: usize) -> Counted
         ensures { λ r. ⌜ r ≡ uncounted from ⌝ }
@@ -98,8 +112,7 @@ impl Counted {
         requires { ⌜ isDigit b ≡ true ⌝ }
         ensures { λ r. ⌜ (r ≡ b - 48) × (r < 10) ⌝ }
     {
-        let d = b - b'0';
-        d as u64
+        b as u64 - Counted::ZERO
     }
 
     // Whether one more digit leaves a number that there is.
@@ -107,50 +120,50 @@ impl Counted {
         requires { ⌜ digit < 10 ⌝ }
         ensures { λ r. ⌜ r ≡ ltb (value * 10 + digit) numbers ⌝ }
     {
-        (value < u64::MAX / Counted::BASE)
-            | (value == u64::MAX / Counted::BASE) & (digit <= u64::MAX % Counted::BASE)
-    }
-
-    fn no_leading_zero(field: &[u8]) -> bool
-        ensures { λ r. ⌜ r ≡ noLeadingZero (now (field .entry)) ⌝ }
-    {
-        if field.len() == 0 {
-            return false;
-        }
-        if field.len() == 1 {
+        if value < u64::MAX / Counted::BASE {
             return true;
         }
-        field[0] != b'0'
+        (value == u64::MAX / Counted::BASE) & (digit <= u64::MAX % Counted::BASE)
     }
 
-    // A field whose bytes are all digits.
-    fn of(text: &[u8], from: usize, end: usize, value: u64) -> Counted
-        requires { ⌜ Spelled from end value (now text) ⌝ }
-        ensures { λ r. ⌜ r ≡ countedAt from (now (text .entry)) ⌝ }
+    fn found(value: u64, end: usize) -> Counted
+        ensures { λ r. ⌜ r ≡ counted value end ⌝ }
     {
-        if Counted::no_leading_zero(&text[from..end]) {
-            return Counted {
-                plain: true,
-                value,
-                end,
-            };
+        Counted {
+            plain: true,
+            value,
+            end,
         }
-        Counted::not(from)
+    }
+
+    // A "0", which stands alone.
+    fn zero(text: &[u8], from: usize, x: u8) -> Counted
+        requires { ⌜ Led x from 0 (now text) ⌝ }
+        ensures { λ r. ⌜ r ≡ countedTo x from (now (text .entry)) ⌝ }
+    {
+        let end = from + 1;
+        if text.len() <= end {
+            return Counted::found(0, end);
+        }
+        if text[end] != x {
+            return Counted::not(from);
+        }
+        Counted::found(0, end)
     }
 }
 
-// The field from a place on, up to a tab or the text's end, as a number.
-pub fn number_from(text: &[u8], from: usize) -> Counted
-    requires { ⌜ from ≤ length (now text) ⌝ }
-    ensures { λ r. ⌜ r ≡ countedAt from (now (text .entry)) ⌝ }
+// Digit by digit behind the first, which is no "0".
+fn number_on(text: &[u8], from: usize, first: u64, x: u8) -> Counted
+    requires { ⌜ (Led x from first (now text)) × (first ≡ 0 → ⊥) ⌝ }
+    ensures { λ r. ⌜ r ≡ countedTo x from (now (text .entry)) ⌝ }
 {
-    let mut value: u64 = 0;
-    let mut i = from;
+    let mut value = first;
+    let mut i = from + 1;
     while i < text.len() {
         let b = text[i];
         if !Counted::is_digit(b) {
-            if b == b'\t' {
-                return Counted::of(text, from, i, value);
+            if b == x {
+                return Counted::found(value, i);
             }
             return Counted::not(from);
         }
@@ -161,5 +174,47 @@ pub fn number_from(text: &[u8], from: usize) -> Counted
         value = value * Counted::BASE + d;
         i += 1;
     }
-    Counted::of(text, from, i, value)
+    Counted::found(value, i)
+}
+
+// What stands from a place on, up to a byte that is no digit or the text's end, as a number.
+fn number_until(text: &[u8], from: usize, x: u8) -> Counted
+    requires { ⌜ (from ≤ length (now text)) × (isDigit x ≡ false) ⌝ }
+    ensures { λ r. ⌜ r ≡ countedTo x from (now (text .entry)) ⌝ }
+{
+    if text.len() <= from {
+        return Counted::not(from);
+    }
+    let b = text[from];
+    if !Counted::is_digit(b) {
+        return Counted::not(from);
+    }
+    let first = Counted::digit_value(b);
+    if first == 0 {
+        return Counted::zero(text, from, x);
+    }
+    number_on(text, from, first, x)
+}
+
+// The field from a place on, up to a tab or the text's end, as a number.
+pub fn number_from(text: &[u8], from: usize) -> Counted
+    requires { ⌜ from ≤ length (now text) ⌝ }
+    ensures { λ r. ⌜ r ≡ countedAt from (now (text .entry)) ⌝ }
+{
+    number_until(text, from, b'\t')
+}
+
+// The number from a place on that has a byte behind it, and the place behind that.
+pub fn number_then(text: &[u8], from: usize, x: u8) -> Counted
+    requires { ⌜ (from ≤ length (now text)) × (isDigit x ≡ false) ⌝ }
+    ensures { λ r. ⌜ NumberThen x from (now (text .entry)) r ⌝ }
+{
+    let field = number_until(text, from, x);
+    if !field.plain {
+        return Counted::not(from);
+    }
+    if text.len() <= field.end {
+        return Counted::not(from);
+    }
+    Counted::found(field.value, field.end + 1)
 }

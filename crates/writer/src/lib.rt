@@ -14,7 +14,7 @@ pub struct Written {
 }
 
 // 23 first, then the form number, or 0.
-pub fn asked(i: Instruction, rules: Rules) -> u64
+fn asked(i: Instruction, rules: Rules) -> u64
     ensures { λ r. ⌜ r ≡ askedOf rules i ⌝ }
 {
     if !fits(i) {

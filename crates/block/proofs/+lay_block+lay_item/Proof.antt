@@ -8,12 +8,12 @@ use borrow.Author.Needs.{needs}
 use borrow.Fn.Kinds.{In}
 use borrow.Fn.PlainCycle.{Measures, is, falls, and}
 use lib.ListN.{length}
+use Rattle.block_line.proofs.take_line.Reads as take-line-reads
 use Rattle.nest.proofs.close_repeat.Reads as close-repeat-reads
 use Rattle.nest.proofs.open_repeat.Reads as open-repeat-reads
 use Rattle.nest.proofs.put_pulse.Reads as put-pulse-reads
 use Rattle.block.proofs.Laying.{Going, going-start, going-size, going-asks, going-next, going-end, going-out, item-never, unshaped-moved, pulse-room, pulse-size, pulse-moved, repeat-opens, body-asks, repeat-closes, repeat-size, repeat-moved}
 use Rattle.block.proofs.is_end.Reads as is-end-reads
-use Rattle.block.proofs.take_line.Reads as take-line-reads
 use Rattle.block.proofs.lay_block.Reads as lay-block
 use Rattle.block.proofs.lay_block.Kinds as lay-block-kinds
 use Rattle.block.proofs.+lay_block+lay_item.Lts-lay_block as lay-block-lts

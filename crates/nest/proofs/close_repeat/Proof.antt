@@ -1,11 +1,10 @@
--- The instruction, put.
-use Rattle.nest.proofs.Puts.{put-same}
+-- The word, put.
 use borrow.Author.Needs.{needs}
 use Rattle.nest.proofs.close_repeat.Statement.{statement}
 use Rattle.nest.proofs.close_repeat.Tie as tie
 
-flows-requires : tie.Need-flows-requires
-flows-requires c κs = search needs
+return-word-requires : tie.Need-return-word-requires
+return-word-requires c κs = search needs
 
 put-one-requires : tie.Need-put-one-requires
 put-one-requires c κs = search needs
@@ -14,7 +13,7 @@ same-length : tie.Need-same-length
 same-length c = search needs
 
 returns : tie.Need-returns
-returns c = put-same (c .before .before .before .before .before .before .before .args .level) (c .before .before .before .before .before .before .before .args .heads .now) (c .before .before .before .before .before .before .before .args .words .now) (c .before .before .put-one .ensures) (c .before .before .before .before .before .flows .ensures)
+returns c = c .before .before .put-one .ensures _ (c .before .before .before .before .before .return-word .ensures)
 
 pub close-repeat-spec : {M : Type 1} → statement M
-close-repeat-spec = tie.close (tie.spec flows-requires put-one-requires same-length returns)
+close-repeat-spec = tie.close (tie.spec return-word-requires put-one-requires same-length returns)

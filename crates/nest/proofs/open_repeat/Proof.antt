@@ -26,14 +26,11 @@ mul-body c = search needs
 element-copy-out-body : tie.Need-element-copy-out-body
 element-copy-out-body c = search needs
 
-sub-t17 : tie.Need-sub-t17
-sub-t17 c = search needs
+sub-t16 : tie.Need-sub-t16
+sub-t16 c = search needs
 
-flows-requires : tie.Need-flows-requires
-flows-requires c κs = search needs
-
-word-of-requires : tie.Need-word-of-requires
-word-of-requires c κs = search needs
+load-repeat-word-requires : tie.Need-load-repeat-word-requires
+load-repeat-word-requires c κs = search needs
 
 mul-words : tie.Need-mul-words
 mul-words c = search needs
@@ -41,23 +38,17 @@ mul-words c = search needs
 slice-write-words : tie.Need-slice-write-words
 slice-write-words c = search needs
 
-flows-requires-2 : tie.Need-flows-requires-2
-flows-requires-2 c κs = search needs
-
-word-of-requires-2 : tie.Need-word-of-requires-2
-word-of-requires-2 c κs = search needs
+call-word-requires : tie.Need-call-word-requires
+call-word-requires c κs = search needs
 
 mul-words-2 : tie.Need-mul-words-2
 mul-words-2 c = search needs
 
 slice-write-words-2 : tie.Need-slice-write-words-2
-slice-write-words-2 c = second-inside (c .before .before .before .before .before .before .before .args .words .now) (getD (c .before .before .before .before .before .before .before .args .heads .now) (c .before .before .before .before .before .before .before .args .level) 0) (c .before .before .before .before .before .before .before .pre .2) (c .before .before .word-of .result)
+slice-write-words-2 c = second-inside (c .before .before .before .before .before .args .words .now) (getD (c .before .before .before .before .before .args .heads .now) (c .before .before .before .before .before .args .level) 0) (c .before .before .before .before .before .pre .2) (c .before .load-repeat-word .result)
 
-flows-requires-3 : tie.Need-flows-requires-3
-flows-requires-3 c κs = search needs
-
-word-of-requires-3 : tie.Need-word-of-requires-3
-word-of-requires-3 c κs = search needs
+repeat-word-requires : tie.Need-repeat-word-requires
+repeat-word-requires c κs = search needs
 
 add-words : tie.Need-add-words
 add-words c = search needs
@@ -66,7 +57,7 @@ mul-words-3 : tie.Need-mul-words-3
 mul-words-3 c = search needs
 
 slice-write-words-3 : tie.Need-slice-write-words-3
-slice-write-words-3 c = third-inside (c .before .before .before .before .before .before .before .before .before .args .words .now) (getD (c .before .before .before .before .before .before .before .before .before .args .heads .now) (c .before .before .before .before .before .before .before .before .before .args .level) 0) (c .before .before .before .before .before .before .before .before .before .pre .2) (c .before .before .before .before .word-of .result) (c .before .before .word-of2 .result)
+slice-write-words-3 c = third-inside (c .before .before .before .before .before .before .args .words .now) (getD (c .before .before .before .before .before .before .args .heads .now) (c .before .before .before .before .before .before .args .level) 0) (c .before .before .before .before .before .before .pre .2) (c .before .before .load-repeat-word .result) (c .before .call-word .result)
 
 add-heads : tie.Need-add-heads
 add-heads c = search needs
@@ -81,7 +72,10 @@ same-length : tie.Need-same-length
 same-length c = search needs
 
 returns : tie.Need-returns
-returns c = put-opening (c .before .before .before .before .before .before .before .before .before .args .level) (c .before .before .before .before .before .before .before .before .before .args .heads .now) (c .before .before .before .before .before .before .before .before .before .args .words .now) (c .before .before .before .before .before .before .before .before .before .args .n) _ (ap (λ (k : ℕ). getD (c .before .before .before .before .before .before .before .before .before .args .heads .now) k 0) (add-one (c .before .before .before .before .before .before .before .before .before .args .level))) (c .before .before .before .before .word-of .ensures) (c .before .before .before .before .before .flows .ensures) (c .before .before .word-of2 .ensures) (c .before .before .before .flows2 .ensures) (c .word-of3 .ensures) (c .before .flows3 .ensures)
+returns c =
+    put-opening (c .before .before .before .before .before .before .args .level) (c .before .before .before .before .before .before .args .heads .now) (c .before .before .before .before .before .before .args .words .now) (c .before .before .before .before .before .before .args .n) _
+    (ap (λ (k : ℕ). getD (c .before .before .before .before .before .before .args .heads .now) k 0) (add-one (c .before .before .before .before .before .before .args .level)))
+    (c .before .before .load-repeat-word .ensures) (c .before .call-word .ensures) (c .repeat-word .ensures)
 
 pub open-repeat-spec : {M : Type 1} → statement M
 open-repeat-spec =
@@ -93,17 +87,14 @@ open-repeat-spec =
     add-body
     mul-body
     element-copy-out-body
-    sub-t17
-    flows-requires
-    word-of-requires
+    sub-t16
+    load-repeat-word-requires
     mul-words
     slice-write-words
-    flows-requires-2
-    word-of-requires-2
+    call-word-requires
     mul-words-2
     slice-write-words-2
-    flows-requires-3
-    word-of-requires-3
+    repeat-word-requires
     add-words
     mul-words-3
     slice-write-words-3

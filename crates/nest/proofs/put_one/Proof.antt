@@ -10,9 +10,6 @@ mul-here c = search needs
 element-copy-out-here : tie.Need-element-copy-out-here
 element-copy-out-here c = search needs
 
-word-of-requires : tie.Need-word-of-requires
-word-of-requires c κs = search needs
-
 mul-words : tie.Need-mul-words
 mul-words c = search needs
 
@@ -32,7 +29,7 @@ same-length : tie.Need-same-length
 same-length c = search needs
 
 returns : tie.Need-returns
-returns c = put-single (c .before .before .before .args .level) (c .before .before .before .args .heads .now) (c .before .before .before .args .words .now) (c .before .before .before .args .i) (c .word-of .ensures)
+returns c i e = put-single (c .before .args .level) (c .before .args .heads .now) (c .before .args .words .now) i e
 
 pub put-one-spec : {M : Type 1} → statement M
 put-one-spec =
@@ -40,7 +37,6 @@ put-one-spec =
     (tie.spec
     mul-here
     element-copy-out-here
-    word-of-requires
     mul-words
     slice-write-words
     add-heads
