@@ -10,7 +10,8 @@ use lib.Dec.{eqb}
 use lib.ListN.{length, getD, drop}
 use Rattle.instruction.specs.Bits.{pick}
 use Rattle.text.specs.Cut.{Row, rowsIn}
-use Rattle.nest.specs.Block.{Block, blockIn, nestLimit, Fair}
+use Rattle.nest.specs.Block.{Block, blockIn, nestLimit}
+use Rattle.nest.specs.Fair.{Fair}
 use Rattle.nest.specs.Layout.{raised, passed, sumOf}
 use Rattle.nest.specs.declared.Line.{Line}
 use Rattle.nest.specs.declared.Line.the-variants.{Pulse, Repeat, End, Unshaped}
@@ -20,8 +21,10 @@ use Rattle.block_line.specs.Line.{lineOf, lineNumber, levelAfter}
 use Rattle.block_line.proofs.Shapes.{opIn, line-plays}
 use Rattle.block_line.proofs.Numbers.{repeat-fair, number-pulse, end-paired, shaped}
 use Rattle.block.specs.Text.{refusedAt, accepted, judged}
-use Rattle.block_line.specs.Taking.{linesFrom, Takes}
+use Rattle.block_line.specs.Taking.{linesFrom, takenAt}
+use Rattle.block_line.specs.declared.Taken.{Taken}
 use Rattle.block_line.proofs.Forms.{lines-none}
+use Rattle.block_line.proofs.Taking.{Takes, takes}
 use Rattle.block.specs.Steps.{AllShaped, wordsFor, counted, Judges}
 use Rattle.block.specs.declared.Translation.{Translation}
 
@@ -114,7 +117,7 @@ module _ (wave : ℕ) (text before : List ℕ) where
             few = λ z. absurd (omega (arith, z, ap (λ (t : Translation). t .number) e));
           }
 
-      pub judging-end : level ≡ 0 → {r : Translation} → r ≡ refusedAt 0 0 → Judges wave text before sizes r
+      pub judging-end : level ≡ 0 → {r : Translation} → r ≡ accepted 0 → Judges wave text before sizes r
       judging-end z e =
           record {
             answer = e ∙ sym (last ∙ ended wave row level z);
@@ -122,7 +125,20 @@ module _ (wave : ℕ) (text before : List ℕ) where
             few = λ y. omega (arith, g .some, g .few, g .far, h);
           }
 
-    module _ {line : Line} {next : ℕ} (k : Takes text at line next) {number : ℕ} (e : number ≡ lineNumber wave level line) where
+    module _ (h : at < length text) {t : Taken} (u : t ≡ takenAt text at) {number : ℕ} (e : number ≡ lineNumber wave level (t .line)) where
+      abbrev line : Line
+      line = t .line
+
+      abbrev next : ℕ
+      next = t .next
+
+      k : Takes text at line next
+      k = takes text at h u
+
+      -- the measure falls
+      pub judging-falls : length text - next < length text - at
+      judging-falls = omega (arith, k .later, k .far)
+
       pub judging-bad : (number ≡ 0 → ⊥) → {r : Translation} → r ≡ refusedAt number row → Judges wave text before sizes r
       judging-bad n f =
           record {

@@ -11,15 +11,18 @@ use Rattle.instruction.specs.Word.{wordOf}
 use Rattle.instruction.specs.declared.Instruction.{Instruction}
 use Rattle.instruction.specs.declared.WaveformFields.{WaveformFields}
 use Rattle.instruction.specs.declared.Body.the-variants.{Waveform}
-use Rattle.nest.specs.Block.{Block, pulse, repeat, blockIn, nestLimit, high, Fair}
+use Rattle.nest.specs.Block.{Block, pulse, repeat, blockIn, nestLimit, high}
+use Rattle.nest.specs.Fair.{Fair}
 use Rattle.nest.specs.Layout.{raised, passed, Sheet, sheet, put, opening, closing, laid}
 use Rattle.nest.specs.declared.Line.{Line}
 use Rattle.nest.specs.declared.Line.the-variants.{Pulse, Repeat, End, Unshaped}
 use Rattle.nest.proofs.Heads.{raised-length, raised-same, raised-up, passed-length, passed-up, passed-body}
 use Rattle.nest.proofs.Laid.{laid-heads, laid-length}
 use Rattle.text.proofs.Bools.{never}
-use Rattle.block_line.specs.Taking.{linesFrom, Takes}
+use Rattle.block_line.specs.Taking.{linesFrom, takenAt}
+use Rattle.block_line.specs.declared.Taken.{Taken}
 use Rattle.block_line.proofs.Forms.{lines-none}
+use Rattle.block_line.proofs.Taking.{Takes, takes}
 use Rattle.block.specs.Steps.{AllShaped, isEnd, CanLay, Onward, ItemAsks, Moved, BlockAsks, Laid}
 
 -- ---- sheets
@@ -236,7 +239,22 @@ module _ (text : List ℕ) (at level : ℕ) (heads₀ words₀ : List ℕ) (a : 
           wrote = sym (ap (λ (ls : List Line). laid (blockIn ls 0) level (sheet heads words)) e) ∙ g .on .same;
         }
 
-    module _ {line : Line} {next : ℕ} (k : Takes text i line next) where
+    module _ (h : i < length text) {t : Taken} (u : t ≡ takenAt text i) where
+      abbrev line : Line
+      line = t .line
+
+      abbrev next : ℕ
+      next = t .next
+
+      k : Takes text i line next
+      k = takes text i h u
+
+      pub going-later : i < next
+      going-later = k .later
+
+      pub going-far : next ≤ length text
+      going-far = k .far
+
       left : AllShaped (line ∷ k .rest)
       left = subst AllShaped (k .lines) (g .shaped)
 

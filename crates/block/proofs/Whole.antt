@@ -11,7 +11,8 @@ use lib.ListN.{length, getD, drop, replicate}
 use Rattle.instruction.specs.Bits.{pick, _gives_else_}
 use Rattle.instruction.specs.declared.Body.the-variants.{Sync}
 use Rattle.sequence.specs.Bounds.{wordLimit, waveLimit}
-use Rattle.nest.specs.Block.{Block, nestLimit, high, Fair}
+use Rattle.nest.specs.Block.{Block, nestLimit, high}
+use Rattle.nest.specs.Fair.{Fair}
 use Rattle.nest.specs.Layout.{sizeOf, raised, passed, sumOf, sizesOf, startsFrom, Sheet, sheet, put, laid, laidIn, parked, wordsOf}
 use Rattle.nest.proofs.Sums.{sizes-length, sizes-sum, starts-first}
 use Rattle.nest.proofs.Wholes.{headsOf, heads-levels, park-place, park-inside, laid-room, whole-in}

@@ -5,7 +5,8 @@ use mathlib.Core.Path.{_≡_}
 use mathlib.Core.Bool.{Bool, true, false}
 use mathlib.Core.List.{List, [], _∷_}
 use lib.ListN.{length, getD}
-use Rattle.nest.specs.Block.{Block, blockIn, nestLimit, Fair}
+use Rattle.nest.specs.Block.{Block, blockIn, nestLimit}
+use Rattle.nest.specs.Fair.{Fair}
 use Rattle.nest.specs.Layout.{sizeOf, sumOf, raised, passed, sizesOf, startsFrom, Sheet, sheet, laid}
 use Rattle.nest.specs.declared.Line.{Line}
 use Rattle.nest.specs.declared.Line.the-variants.{Pulse, Repeat, End, Unshaped}

@@ -6,7 +6,7 @@ ghost use Prim.Native.Nat.{suc, _≤_, _<_, _^_};
 ghost use lib.ListN.{length};
 ghost use Rattle.nest.specs.Block.{nestLimit};
 ghost use Rattle.nest.specs.Layout.{sumOf, startsFrom, laidIn};
-ghost use Rattle.block.specs.Text.{refusedAt, blockOf, fitted, Translates};
+ghost use Rattle.block.specs.Text.{refusedAt, accepted, blockOf, fitted, Translates};
 ghost use Rattle.block.specs.Steps.{isEnd, wordsFor, Judges, ItemAsks, Moved, BlockAsks, Laid, CanStart};
 use block_line::level_after;
 use block_line::line_number;
@@ -39,6 +39,16 @@ impl Translation {
         }
     }
 
+    fn accepted(count: u64) -> Translation
+        ensures { λ r. ⌜ r ≡ accepted count ⌝ }
+    {
+        Translation {
+            number: 0,
+            line: 0,
+            count,
+        }
+    }
+
     // 54, 55, or so many words.
     fn fit(size: usize, room: usize) -> Translation
         ensures { λ r. ⌜ r ≡ fitted room size ⌝ }
@@ -50,11 +60,7 @@ impl Translation {
         if room < size {
             return Translation::refused(Nest::NO_ROOM, 0);
         }
-        Translation {
-            number: 0,
-            line: 0,
-            count,
-        }
+        Translation::accepted(count)
     }
 }
 
@@ -104,7 +110,7 @@ fn judge(text: &[u8], wave: QuadSamples, sizes: &mut [usize; Nest::LEVELS]) -> T
     if level != 0 {
         return Translation::refused(Nest::UNPAIRED, row);
     }
-    Translation::refused(0, 0)
+    Translation::accepted(0)
 }
 
 // One level behind the other: where each begins, and how many words there are.

@@ -8,7 +8,7 @@ use mathlib.Core.List.{List, [], _∷_, _++_, map, append-assoc}
 use borrow.Author.Tests.{ltb-true}
 use lib.Dec.{ltb}
 use lib.ListN.{length, take, drop}
-use Rattle.text.specs.Cut.{tab, lineFeed, cut, rowsIn, placeOf, rowAt}
+use Rattle.text.specs.Cut.{tab, lineFeed, cut, rowsIn, placeOf}
 use Rattle.text.specs.Line.{name, number, letters, decimal, Entry, entryText, lineText, Line as Written}
 use Rattle.text.specs.Number.{value, numbers, plain, isNumber}
 use Rattle.text.proofs.Back.{cleanName, allClean, number-back, number-text, fields-back, line-back}
@@ -20,7 +20,7 @@ use Rattle.fields.specs.Fields.{allNumbers}
 use Rattle.nest.specs.declared.Line.{Line}
 use Rattle.nest.specs.declared.Line.the-variants.{Pulse, Repeat, End, Unshaped}
 use Rattle.block_line.specs.Line.{pulseOf, lineNamed, lineIn, lineOf}
-use Rattle.block_line.specs.Taking.{linesFrom, playName, holdName, repeatName, endName}
+use Rattle.block_line.specs.Taking.{linesFrom, lineAt, playName, holdName, repeatName, endName}
 use Rattle.block_line.proofs.Shapes.{Shape, none, plays, holds, repeats, ends, shape-of}
 
 -- ---- a line that is written is read
@@ -113,13 +113,21 @@ module _ (text : List ℕ) (at : ℕ) (h : at < length text) where
   abbrev more : List ℕ
   more = drop (end + 1) text
 
-  first-row : linesFrom text at ≡ lineOf (rowAt text at end) ∷ linesFrom text (end + 1)
+  pub first-row : linesFrom text at ≡ lineAt text at ∷ linesFrom text (end + 1)
   first-row = ap (map lineOf) (rows-next text at {end = end} refl h)
 
   -- a line whose line feed is missing
-  unended : ltb end (length text) ≡ false → First text at
+  unended : ltb end (length text) ≡ false → lineAt text at ≡ Unshaped
   unfolding lineOf
-  unended e = unshaped (linesFrom text (end + 1)) (first-row ∙ ap (λ (t : Bool). lineOf (record { bytes = bytes; ended = t }) ∷ linesFrom text (end + 1)) e)
+  unended e = ap (λ (t : Bool). lineOf (record { bytes = bytes; ended = t })) e
+
+  -- a line with a shape has it
+  pub feed-inside : (lineAt text at ≡ Unshaped → ⊥) → end < length text
+  feed-inside n = by (ltb end (length text)) refl
+    where
+      by : (t : Bool) → ltb end (length text) ≡ t → end < length text
+      by true e = ltb-true end (length text) e
+      by false e = absurd (n (unended e))
 
   module _ (e : ltb end (length text) ≡ true) where
     inside : end < length text
@@ -157,4 +165,4 @@ module _ (text : List ℕ) (at : ℕ) (h : at < length text) where
     where
       by : (t : Bool) → ltb end (length text) ≡ t → First text at
       by true e = ended e
-      by false e = unended e
+      by false e = unshaped (linesFrom text (end + 1)) (first-row ∙ ap (λ (l : Line). l ∷ linesFrom text (end + 1)) (unended e))

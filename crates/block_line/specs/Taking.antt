@@ -1,28 +1,38 @@
 -- Lines that are taken from a text one after the other: it carries the code, and needs no belief.
--- A line of one of the four shapes is read once, and the next one starts behind it; nothing is asked of what follows another.
-use Prim.Native.Nat.{ℕ, _+_, _≤_, _<_}
-use mathlib.Core.Path.{_≡_}
+-- A line of one of the four shapes is read once, and the next one starts behind it; behind another none is read.
+use Prim.Native.Nat.{ℕ, _+_}
 use mathlib.Core.List.{List, [], _∷_, _++_, map}
 use lib.ListN.{length, drop}
 use Rattle.instruction.specs.Bits.{pick}
-use Rattle.text.specs.Cut.{tab, lineFeed, rowsIn, startsWith}
+use Rattle.text.specs.Cut.{tab, lineFeed, rowsIn, rowAt, placeOf, startsWith}
 use Rattle.text.specs.Line.{letters}
 use Rattle.nest.specs.declared.Line.{Line}
-use Rattle.nest.specs.declared.Line.the-variants.{Unshaped}
+use Rattle.nest.specs.declared.Line.the-variants.{Pulse, Repeat, End, Unshaped}
 use Rattle.block_line.specs.Line.{lineOf}
+use Rattle.block_line.specs.declared.Taken.{Taken}
 
 -- the lines from a byte on
 abbrev pub linesFrom : List ℕ → ℕ → List Line
 linesFrom text at = map lineOf (rowsIn (drop at text))
 
--- a line was taken, and the lines go on behind it if it has a shape
-pub record Takes (text : List ℕ) (at : ℕ) (line : Line) (next : ℕ) : Type 0 where
-  pub later : at < next
-  pub far : next ≤ length text
-  pub rest : List Line
-  pub lines : linesFrom text at ≡ line ∷ rest
-  pub goes : (line ≡ Unshaped → ⊥) → rest ≡ linesFrom text next
-  pub long : (line ≡ Unshaped → ⊥) → at + 4 ≤ next
+-- the first of them
+abbrev pub lineAt : List ℕ → ℕ → Line
+lineAt text at = lineOf (rowAt text at (placeOf lineFeed at text))
+
+-- where the next one starts: behind the line feed, or at the text's end
+abbrev pub nextAfter : Line → ℕ → ℕ → ℕ
+nextAfter (Pulse f) feed end = feed + 1
+nextAfter (Repeat n) feed end = feed + 1
+nextAfter End feed end = feed + 1
+nextAfter Unshaped feed end = end
+
+abbrev pub taken : Line → ℕ → Taken
+taken line next = record { line = line; next = next }
+
+abbrev pub takenAt : List ℕ → ℕ → Taken
+takenAt text at = taken (lineAt text at) (nextAfter (lineAt text at) (placeOf lineFeed at text) (length text))
+
+-- ---- names
 
 -- a name and the byte behind it
 abbrev pub playName : List ℕ

@@ -8,7 +8,7 @@ ghost use lib.ListN.{length, drop};
 ghost use Rattle.text.specs.Cut.{startsWith};
 ghost use Rattle.nest.specs.Block.{nestLimit, pulseNumber};
 ghost use Rattle.block_line.specs.Line.{pulseOf, lineNumber, levelAfter};
-ghost use Rattle.block_line.specs.Taking.{Takes, heldIn, repeatName};
+ghost use Rattle.block_line.specs.Taking.{taken, takenAt, heldIn, repeatName};
 use instruction::Body;
 use instruction::EngineOp;
 use instruction::QuadSamples;
@@ -41,6 +41,16 @@ impl Taken {
     const HELD: u64 = 1;
 
     const NEITHER: u64 = 2;
+
+    // A line without a shape: nothing is read behind it.
+    fn unshaped(text: &[u8]) -> Taken
+        ensures { λ r. ⌜ r ≡ taken Line.Unshaped (length (now (text .entry))) ⌝ }
+    {
+        Taken {
+            line: Line::Unshaped,
+            next: text.len(),
+        }
+    }
 }
 
 fn pulse(ta: u64, address: u64, count: u64) -> Line
@@ -71,21 +81,15 @@ fn held_at(text: &[u8], at: usize) -> u64
 // A play or hold whose name stands at a place.
 fn take_pulse(text: &[u8], at: usize, ta: u64) -> Taken
     requires { ⌜ (ta ≡ heldIn (drop at (now text))) × (ta ≡ 2 → ⊥) ⌝ }
-    ensures { λ r. ⌜ Takes (now (text .entry)) at (r .line) (r .next) ⌝ }
+    ensures { λ r. ⌜ r ≡ takenAt (now (text .entry)) at ⌝ }
 {
     let address = number_then(text, at + Taken::PULSE, b'\t');
     if !address.plain {
-        return Taken {
-            line: Line::Unshaped,
-            next: text.len(),
-        };
+        return Taken::unshaped(text);
     }
     let count = number_then(text, address.end, b'\n');
     if !count.plain {
-        return Taken {
-            line: Line::Unshaped,
-            next: text.len(),
-        };
+        return Taken::unshaped(text);
     }
     let line = pulse(ta, address.value, count.value);
     Taken {
@@ -97,14 +101,11 @@ fn take_pulse(text: &[u8], at: usize, ta: u64) -> Taken
 // A repeat whose name stands at a place.
 fn take_repeat(text: &[u8], at: usize) -> Taken
     requires { ⌜ startsWith repeatName (drop at (now text)) ≡ true ⌝ }
-    ensures { λ r. ⌜ Takes (now (text .entry)) at (r .line) (r .next) ⌝ }
+    ensures { λ r. ⌜ r ≡ takenAt (now (text .entry)) at ⌝ }
 {
     let count = number_then(text, at + Taken::REPEAT, b'\n');
     if !count.plain {
-        return Taken {
-            line: Line::Unshaped,
-            next: text.len(),
-        };
+        return Taken::unshaped(text);
     }
     Taken {
         line: Line::Repeat(count.value),
@@ -115,7 +116,7 @@ fn take_repeat(text: &[u8], at: usize) -> Taken
 // The line at a place before the text's end.
 pub fn take_line(text: &[u8], at: usize) -> Taken
     requires { ⌜ at < length (now text) ⌝ }
-    ensures { λ r. ⌜ Takes (now (text .entry)) at (r .line) (r .next) ⌝ }
+    ensures { λ r. ⌜ r ≡ takenAt (now (text .entry)) at ⌝ }
 {
     let ta = held_at(text, at);
     if ta != Taken::NEITHER {
@@ -130,10 +131,7 @@ pub fn take_line(text: &[u8], at: usize) -> Taken
             next: at + Taken::END,
         };
     }
-    Taken {
-        line: Line::Unshaped,
-        next: text.len(),
-    }
+    Taken::unshaped(text)
 }
 
 // 23, 16, 20 or 0, of a play or hold.

@@ -11,7 +11,8 @@ use lib.Seq.{sets, length-sets, getD-set-same, getD-set-other}
 use Rattle.instruction.specs.Word.{wordOf}
 use Rattle.instruction.specs.declared.Instruction.{Instruction}
 use Rattle.instruction.specs.declared.Body.the-variants.{Waveform, Return}
-use Rattle.nest.specs.Block.{Block, done, pulse, repeat, nestLimit, high, low, Fair}
+use Rattle.nest.specs.Block.{Block, done, pulse, repeat, nestLimit, high, low}
+use Rattle.nest.specs.Fair.{Fair}
 use Rattle.nest.specs.Layout.{raised, passed, Sheet, headOf, put, opening, closing, laid}
 use Rattle.nest.proofs.Heads.{raised-length, raised-same, raised-other, raised-up}
 use Rattle.nest.proofs.Stands.{At, Stands, Among}

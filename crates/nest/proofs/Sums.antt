@@ -6,7 +6,8 @@ use mathlib.Core.List.{List, [], _∷_}
 use native.Mathlib.Decide.{decLt}
 use native.Mathlib.Omega.{arith}
 use lib.ListN.{length, getD, replicate}
-use Rattle.nest.specs.Block.{Block, done, pulse, repeat, nestLimit, Fair}
+use Rattle.nest.specs.Block.{Block, done, pulse, repeat, nestLimit}
+use Rattle.nest.specs.Fair.{Fair}
 use Rattle.nest.specs.Layout.{sumOf, wordsIn, sizeOf, raised, passed, sizesOf, startsFrom}
 use Rattle.nest.proofs.Heads.{raised-length, passed-length}
 

@@ -10,7 +10,8 @@ use lib.ListN.{length, getD, drop, replicate, length-append, length-drop, length
 use lib.Seq.{ext-getD, getD-append-add, getD-drop}
 use Rattle.instruction.specs.Word.{wordOf}
 use Rattle.instruction.specs.declared.Body.the-variants.{Goto, Sync}
-use Rattle.nest.specs.Block.{Block, nestLimit, high, low, Fair}
+use Rattle.nest.specs.Block.{Block, nestLimit, high, low}
+use Rattle.nest.specs.Fair.{Fair}
 use Rattle.nest.specs.Layout.{sizeOf, parkOf, raised, passed, sizesOf, startsFrom, Sheet, sheet, headOf, put, laid, laidIn, wordsOf}
 use Rattle.nest.proofs.Heads.{raised-length, raised-same, raised-other, passed-length, passed-own}
 use Rattle.nest.proofs.Stands.{At, Stands, Among, Whole}

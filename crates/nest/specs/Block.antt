@@ -1,7 +1,6 @@
 -- What block the lines of a text are. Document 02, CR 5: "A block is a list of items, and an item may be a repeat around a block."
 -- Every list of lines is some block; which texts are refused is the judge's to say.
-use Prim.Native.Nat.{ℕ, zero, suc, _≤_, _<_}
-use mathlib.Core.Path.{_≡_}
+use Prim.Native.Nat.{ℕ, zero, suc}
 use mathlib.Core.List.{List, [], _∷_}
 use Rattle.instruction.specs.Bits.{_gives_else_}
 use Rattle.instruction.specs.Form.{filled}
@@ -55,9 +54,3 @@ unfoldable pub pulseNumber : ℕ → WaveformFields → ℕ
 pulseNumber wave f =
     filled (askedOf current (high (Waveform f))) gives askedOf current (high (Waveform f))
     else placingOf wave 0 (Waveform f)
-
--- a block that stands at a level, and has nothing that is refused
-abbrev pub Fair : ℕ → ℕ → Block → Type 0
-Fair wave level done = Unit {0}
-Fair wave level (pulse f b) = (pulseNumber wave f ≡ 0) × (f .op ≡ 0) × Fair wave level b
-Fair wave level (repeat n c b) = (1 ≤ n) × (n ≤ repeatLimit) × (level < nestLimit) × Fair wave (suc level) c × Fair wave level b

@@ -1,2 +1,3 @@
 pub mod Block
+pub mod Fair
 pub mod Layout

@@ -13,7 +13,8 @@ use Rattle.instruction.specs.declared.Instruction.{Instruction}
 use Rattle.instruction.specs.declared.WaveformFields.{WaveformFields}
 use Rattle.instruction.specs.declared.Body.the-variants.{Waveform, LoadRepeat, Repeat, Goto, Call, Return, Sync}
 use Rattle.sequence.specs.Bounds.{wordLimit, stackDepth}
-use Rattle.nest.specs.Block.{Block, done, pulse, repeat, nestLimit, high, low, Fair}
+use Rattle.nest.specs.Block.{Block, done, pulse, repeat, nestLimit, high, low}
+use Rattle.nest.specs.Fair.{Fair}
 use Rattle.nest.specs.Layout.{sizeOf, parkOf, raised, passed}
 use Rattle.nest.proofs.Heads.{raised-length, raised-same, raised-other, raised-up, passed-length, passed-up, passed-body, passed-own}
 use Rattle.nest.proofs.Stands.{Stands, Among, Whole}

@@ -16,7 +16,8 @@ use Rattle.jumps.specs.State.{Fixed, fixedBy, Did, fresh, stop}
 use Rattle.rehearsal.specs.Run.{onto, runOf, inputRefused, rehearse}
 use Rattle.rehearsal.proofs.Runs.{refused-none, rehearse-refused, rehearse-runs}
 use Rattle.verdict.proofs.Words.{input-none}
-use Rattle.nest.specs.Block.{Block, Fair}
+use Rattle.nest.specs.Block.{Block}
+use Rattle.nest.specs.Fair.{Fair}
 use Rattle.nest.specs.Layout.{sizeOf, parkOf, wordsOf}
 use Rattle.nest.proofs.Stands.{Whole}
 use Rattle.nest.proofs.Wholes.{words-length, whole}

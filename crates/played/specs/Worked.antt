@@ -5,7 +5,7 @@ use Prim.Native.String.{String}
 use mathlib.Core.Path.{_≡_}
 use mathlib.Core.List.{List, [], _∷_, map}
 use lib.ListN.{length}
-use Rattle.text.specs.Line.{Entry, name, number, Line, textOf}
+use Rattle.text.specs.Line.{name, number, Line, textOf}
 use Rattle.nest.specs.Layout.{parkOf, wordsOf}
 use Rattle.block.specs.Text.{blockOf, accepted, translation}
 use Rattle.played.specs.Played.{dispatchedBy, stepsTo}

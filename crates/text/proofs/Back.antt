@@ -3,22 +3,22 @@
 -- Assumes nothing.
 use Prim.Native.Nat.{ℕ, _+_, _≤_, _<_}
 use Prim.Native.String.{String}
-use mathlib.Core.Path.{_≡_, refl, sym, ap, _∙_}
+use mathlib.Core.Path.{_≡_, refl, sym, ap, ap₂, _∙_}
 use mathlib.Core.Bool.{Bool, true, false, not, _||_, _&&_}
 use mathlib.Core.List.{List, [], _∷_, _++_, map, append-assoc}
 use native.Mathlib.Omega.{arith}
-use borrow.Author.Tests.{lt-ltb, ltb-true, ne-eqb}
+use borrow.Author.Tests.{lt-ltb, le-ltb, ltb-true, ne-eqb}
 use lib.Dec.{ltb, eqb}
 use lib.ListN.{length, drop, length-append, length-drop}
 use Rattle.instruction.specs.Bits.{pick}
 use Rattle.text.specs.Cut.{tab, lineFeed, cut, before, placeOf, rowsIn}
-use Rattle.text.specs.Number.{isDigit, allDigits, plain, value, numbers, isNumber, counted, uncounted, fieldTo, countedTo, NumberThen}
+use Rattle.text.specs.Number.{isDigit, allDigits, plain, value, numbers, isNumber, counted, uncounted, fieldTo, countedTo, countedThen}
 use Rattle.text.specs.declared.Counted.{Counted}
 use Rattle.text.specs.Line.{Entry, name, number, letters, decimal, entryText, lineText, Line}
 use Rattle.text.proofs.Cuts.{has, has-whole, before-piece, joined, noneHas, cut-joined, found-order, found-has, found-behind}
 use Rattle.text.proofs.Decimals.{decimal-value, decimal-digits, decimal-plain, plain-decimal}
 use Rattle.text.proofs.Rows.{rows-line}
-use Rattle.text.proofs.Bools.{both, never}
+use Rattle.text.proofs.Bools.{both, joins, never}
 
 -- ---- numbers
 
@@ -88,45 +88,91 @@ digits-free x (b ∷ bs) e f =
 pub decimal-free : (x n : ℕ) → isDigit x ≡ false → has x (decimal n) ≡ false
 decimal-free x n e = digits-free x (decimal n) e (decimal-digits n)
 
+pub has-append : (x : ℕ) (p q : List ℕ) → has x p ≡ false → has x q ≡ false → has x (p ++ q) ≡ false
+has-append x [] q e f = f
+has-append x (b ∷ p) q e f = by (eqb b x) e (has-append x p q)
+  where
+    by : (t : Bool) → (t || has x p) ≡ false → (has x p ≡ false → has x q ≡ false → has x (p ++ q) ≡ false) → (t || has x (p ++ q)) ≡ false
+    by true g ih = g
+    by false g ih = ih g f
+
 -- ---- a number with a byte behind it
 
-module _ (x from : ℕ) (text : List ℕ) (h : from ≤ length text) (n : isDigit x ≡ false) {r : Counted} (e : r ≡ countedTo x from text) where
-  pub then-found : r .plain ≡ true → r .end < length text → {u : Counted} → u ≡ counted (r .value) (r .end + 1) → NumberThen x from text u
-  then-found p l {u = u} f =
-      let s = number-said x from text e p in
-      rw f
-      record {
-        order = omega (arith, found-order x from text (s .2));
-        inside = omega (arith, l);
-        small = omega (arith, s .1, ltb-true (value (fieldTo x from text)) numbers (both (plain (fieldTo x from text)) (ltb (value (fieldTo x from text)) numbers) (s .0) .1));
-        found = λ t.
-            has-whole x (drop from text) (found-has x from text (s .2) l)
-            ∙ ap (λ (bs : List ℕ). fieldTo x from text ++ (x ∷ bs)) (found-behind x from text (s .2) l)
-            ∙ ap (λ (bs : List ℕ). bs ++ (x ∷ drop (r .end + 1) text)) (sym (number-text (fieldTo x from text) (s .0)) ∙ ap decimal (sym (s .1)));
-        none = λ t. never t;
-      }
+-- both stand there and are read up to what follows, or there is no such number
+pub record NumberThen (x from : ℕ) (text : List ℕ) (r : Counted) : Type 0 where
+  pub order : from ≤ r .end
+  pub inside : r .end ≤ length text
+  pub small : r .value < numbers
+  pub found : r .plain ≡ true → drop from text ≡ decimal (r .value) ++ (x ∷ drop (r .end) text)
+  pub ends : r .plain ≡ true → r .end ≡ placeOf x from text + 1
+  pub none : r .plain ≡ false → (n : ℕ) (more : List ℕ) → n < numbers → drop from text ≡ decimal n ++ (x ∷ more) → ⊥
 
-  -- a number that stands there is found
-  stood : (k : ℕ) (more : List ℕ) → k < numbers → drop from text ≡ decimal k ++ (x ∷ more) → (r .plain ≡ true) × (r .end < length text)
-  stood k more l s = (ap (λ (c : Counted). c .plain) whole, omega (arith, far, ap (λ (c : Counted). c .end) whole))
-    where
-      piece : fieldTo x from text ≡ decimal k
-      piece = ap (before x) s ∙ before-piece x (decimal k) more (decimal-free x k n)
+module _ (x from : ℕ) (text : List ℕ) where
+  abbrev field : List ℕ
+  field = fieldTo x from text
 
-      whole : r ≡ counted (value (fieldTo x from text)) (placeOf x from text)
-      whole = e ∙ ap (λ (t : Bool). pick t (counted (value (fieldTo x from text)) (placeOf x from text)) (uncounted from)) (ap isNumber piece ∙ number-back k l)
+  abbrev place : ℕ
+  place = placeOf x from text
 
-      far : placeOf x from text < length text
-      far = omega (arith, h, ap length piece, ap length s, length-append (decimal k) (x ∷ more), length-drop from text)
+  -- what is told, by whether the field is a number, and whether the byte is there
+  abbrev told : Bool → Bool → Counted
+  told t u = pick (t && u) (counted (value field) (place + 1)) (uncounted from)
 
-  unread : ((k : ℕ) (more : List ℕ) → k < numbers → drop from text ≡ decimal k ++ (x ∷ more) → ⊥) → {u : Counted} → u ≡ uncounted from → NumberThen x from text u
-  unread m {u = u} f = rw f record { order = omega arith; inside = h; small = omega arith; found = λ t. never (sym t); none = λ t. m }
+  module _ {r : Counted} (e : r ≡ countedTo x from text) where
+    pub then-not : r .plain ≡ false → {u : Counted} → u ≡ uncounted from → u ≡ countedThen x from text
+    then-not p f = f ∙ sym (ap (λ (t : Bool). told t (ltb place (length text))) (number-not x from text e p))
 
-  pub then-not : r .plain ≡ false → {u : Counted} → u ≡ uncounted from → NumberThen x from text u
-  then-not p f = unread (λ k more l s. never (sym (stood k more l s .0) ∙ p)) f
+    module _ (p : r .plain ≡ true) where
+      pub then-last : length text ≤ r .end → {u : Counted} → u ≡ uncounted from → u ≡ countedThen x from text
+      then-last l f =
+          let s = number-said x from text e p in
+          f ∙ sym (ap₂ told (s .0) (le-ltb place (length text) (omega (arith, l, s .2))))
 
-  pub then-last : length text ≤ r .end → {u : Counted} → u ≡ uncounted from → NumberThen x from text u
-  then-last p f = unread (λ k more l s. omega (arith, p, stood k more l s .1)) f
+      pub then-found : r .end < length text → {u : Counted} → u ≡ counted (r .value) (r .end + 1) → u ≡ countedThen x from text
+      then-found l f =
+          let s = number-said x from text e p in
+          f ∙ ap₂ (λ (v k : ℕ). counted v (k + 1)) (s .1) (s .2) ∙ sym (ap₂ told (s .0) (lt-ltb place (length text) (omega (arith, l, s .2))))
+
+  module _ (h : from ≤ length text) (n : isDigit x ≡ false) where
+    -- a number that stands there is read
+    stood : (k : ℕ) (more : List ℕ) → k < numbers → drop from text ≡ decimal k ++ (x ∷ more) → (isNumber field && ltb place (length text)) ≡ true
+    stood k more l s = joins (isNumber field) (ltb place (length text)) (ap isNumber piece ∙ number-back k l) (lt-ltb place (length text) far)
+      where
+        piece : field ≡ decimal k
+        piece = ap (before x) s ∙ before-piece x (decimal k) more (decimal-free x k n)
+
+        far : place < length text
+        far = omega (arith, h, ap length piece, ap length s, length-append (decimal k) (x ∷ more), length-drop from text)
+
+    pub then-read : {r : Counted} → r ≡ countedThen x from text → NumberThen x from text r
+    then-read {r = r} e = by (isNumber field && ltb place (length text)) refl e
+      where
+        by : (t : Bool) → (isNumber field && ltb place (length text)) ≡ t → r ≡ pick t (counted (value field) (place + 1)) (uncounted from) → NumberThen x from text r
+        by false f g =
+            rw g
+            record {
+              order = omega arith;
+              inside = h;
+              small = omega arith;
+              found = λ t. never (sym t);
+              ends = λ t. never (sym t);
+              none = λ t k more l s. never (sym (stood k more l s) ∙ f);
+            }
+        by true f g =
+            let b = both (isNumber field) (ltb place (length text)) f in
+            let l = ltb-true place (length text) (b .1) in
+            rw g
+            record {
+              order = omega (arith, found-order x from text {r = place} refl);
+              inside = omega (arith, l);
+              small = ltb-true (value field) numbers (both (plain field) (ltb (value field) numbers) (b .0) .1);
+              found = λ t.
+                  has-whole x (drop from text) (found-has x from text {r = place} refl l)
+                  ∙ ap (λ (bs : List ℕ). field ++ (x ∷ bs)) (found-behind x from text {r = place} refl l)
+                  ∙ ap (λ (bs : List ℕ). bs ++ (x ∷ drop (place + 1) text)) (sym (number-text field (b .0)));
+              ends = λ t. refl;
+              none = λ t. never t;
+            }
 
 -- neither of two
 neither : (a b : Bool) → not (a || b) ≡ true → (a ≡ false) × (b ≡ false)
@@ -152,14 +198,6 @@ no-tabs [] c = refl
 no-tabs (e ∷ es) c =
     let g = both (clean e) (allClean es) c in
     rw (entry-free e (g .0) .0) (no-tabs es (g .1))
-
-has-append : (x : ℕ) (p q : List ℕ) → has x p ≡ false → has x q ≡ false → has x (p ++ q) ≡ false
-has-append x [] q e f = f
-has-append x (b ∷ p) q e f = by (eqb b x) e (has-append x p q)
-  where
-    by : (t : Bool) → (t || has x p) ≡ false → (has x p ≡ false → has x q ≡ false → has x (p ++ q) ≡ false) → (t || has x (p ++ q)) ≡ false
-    by true g ih = g
-    by false g ih = ih g f
 
 no-feeds : (e : Entry) (es : List Entry) → allClean (e ∷ es) ≡ true → has lineFeed (joined tab (entryText e ∷ map entryText es)) ≡ false
 no-feeds e [] c = entry-free e (both (clean e) true c .0) .1

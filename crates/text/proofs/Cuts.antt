@@ -3,12 +3,12 @@
 use Prim.Native.Nat.{ℕ, suc, _+_, _-_, _≤_, _<_}
 use mathlib.Core.Path.{_≡_, refl, sym, ap, _∙_}
 use mathlib.Core.Bool.{Bool, true, false, not, _||_, _&&_}
-use mathlib.Core.List.{List, [], _∷_, _++_}
+use mathlib.Core.List.{List, [], _∷_, _++_, append-nil}
 use native.Mathlib.Omega.{arith}
 use native.Mathlib.Numerals.{add-one}
 use borrow.Author.Tests.{eq-eqb, ne-eqb, eqb-true, eqb-false, not-true}
 use lib.Dec.{eqb}
-use lib.ListN.{length, take, drop, getD, drop-of-length-le, length-drop}
+use lib.ListN.{length, take, drop, getD, drop-of-length-le, length-append, length-drop}
 use lib.Seq.{drop-cons, drop-drop}
 use Rattle.instruction.specs.Bits.{pick}
 use Rattle.text.specs.Cut.{before, onto, cut, placeOf}
@@ -59,14 +59,17 @@ has-whole x (b ∷ bs) e = by (eqb b x) refl e (has-whole x bs)
     by true f g ih = ap (λ (k : ℕ). k ∷ bs) (eqb-true b x f)
     by false f g ih = ap (λ (l : List ℕ). b ∷ l) (ih g)
 
--- and before it stands a piece without it
-pub before-piece : (x : ℕ) (p bs : List ℕ) → has x p ≡ false → before x (p ++ (x ∷ bs)) ≡ p
-before-piece x [] bs e = rw (eq-eqb x x refl)
-before-piece x (b ∷ p) bs e = by (eqb b x) e (before-piece x p bs)
+-- a piece without it stands before it
+before-past : (x : ℕ) (p bs : List ℕ) → has x p ≡ false → before x (p ++ bs) ≡ p ++ before x bs
+before-past x [] bs e = refl
+before-past x (b ∷ p) bs e = by (eqb b x) e (before-past x p bs)
   where
-    by : (t : Bool) → (t || has x p) ≡ false → (has x p ≡ false → before x (p ++ (x ∷ bs)) ≡ p) → pick t [] (b ∷ before x (p ++ (x ∷ bs))) ≡ b ∷ p
+    by : (t : Bool) → (t || has x p) ≡ false → (has x p ≡ false → before x (p ++ bs) ≡ p ++ before x bs) → pick t [] (b ∷ before x (p ++ bs)) ≡ b ∷ (p ++ before x bs)
     by true f ih = never f
     by false f ih = ap (λ (l : List ℕ). b ∷ l) (ih f)
+
+pub before-piece : (x : ℕ) (p bs : List ℕ) → has x p ≡ false → before x (p ++ (x ∷ bs)) ≡ p
+before-piece x p bs e = before-past x p (x ∷ bs) e ∙ ap (λ (t : Bool). p ++ pick t [] (x ∷ before x bs)) (eq-eqb x x refl) ∙ append-nil p
 
 pub behind-piece : (x : ℕ) (p bs : List ℕ) → has x p ≡ false → behind x (p ++ (x ∷ bs)) ≡ bs
 behind-piece x [] bs e = rw (eq-eqb x x refl)
@@ -150,6 +153,21 @@ module _ (x : ℕ) (text : List ℕ) (i : ℕ) where
 
     pub place-next : (getD text i 0 ≡ x → ⊥) → placeOf x (i + 1) text ≡ placeOf x i text
     place-next e = omega (arith, ap (λ (l : List ℕ). length (before x l)) part, before-more x (getD text i 0) (drop (i + 1) text) e)
+
+-- a piece without the byte is passed over
+pub place-past : (x : ℕ) (p text : List ℕ) (i j : ℕ) → has x p ≡ false → i ≤ length text → j ≤ length text → drop i text ≡ p ++ drop j text
+    → placeOf x i text ≡ placeOf x j text
+place-past x p text i j e h l w =
+    omega (
+      arith,
+      ap (λ (bs : List ℕ). length (before x bs)) w,
+      ap length (before-past x p (drop j text) e),
+      length-append p (before x (drop j text)),
+      ap length w,
+      length-append p (drop j text),
+      length-drop i text,
+      length-drop j text,
+    )
 
 -- four bytes that are others
 module _ (x : ℕ) (text : List ℕ) (i : ℕ) where

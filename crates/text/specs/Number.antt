@@ -1,13 +1,12 @@
 -- A field that is a number: "decimals without leading zeros", "plain decimal below 2^64".
-use Prim.Native.Nat.{ℕ, _+_, _*_, _-_, _^_, _≤_, _<_}
+use Prim.Native.Nat.{ℕ, _+_, _*_, _-_, _^_, _<_}
 use mathlib.Core.Path.{_≡_}
 use mathlib.Core.Bool.{Bool, true, false, not, _&&_}
-use mathlib.Core.List.{List, [], _∷_, _++_}
+use mathlib.Core.List.{List, [], _∷_}
 use lib.Dec.{ltb, leb, eqb}
 use lib.ListN.{length, drop, getD}
 use Rattle.instruction.specs.Bits.{pick}
 use Rattle.text.specs.Cut.{tab, before, placeOf}
-use Rattle.text.specs.Line.{decimal}
 use Rattle.text.specs.declared.Counted.{Counted}
 
 -- from one letter to another
@@ -64,6 +63,11 @@ abbrev pub countedTo : ℕ → ℕ → List ℕ → Counted
 countedTo x from text =
     pick (isNumber (fieldTo x from text)) (counted (value (fieldTo x from text)) (placeOf x from text)) (uncounted from)
 
+-- whether it is one and the byte stands behind it, which, and the place behind that byte
+abbrev pub countedThen : ℕ → ℕ → List ℕ → Counted
+countedThen x from text =
+    pick (isNumber (fieldTo x from text) && ltb (placeOf x from text) (length text)) (counted (value (fieldTo x from text)) (placeOf x from text + 1)) (uncounted from)
+
 -- a field of a line, from a place on
 abbrev pub fieldAt : ℕ → List ℕ → List ℕ
 fieldAt from line = fieldTo tab from line
@@ -77,11 +81,3 @@ pub record Led (x from first : ℕ) (text : List ℕ) : Type 0 where
   pub other : isDigit x ≡ false
   pub digit : isDigit (getD text from 0) ≡ true
   pub said : first ≡ getD text from 0 - 48
-
--- a number with a byte behind it was read from a place on, up to what follows; or there is none
-pub record NumberThen (x from : ℕ) (text : List ℕ) (r : Counted) : Type 0 where
-  pub order : from ≤ r .end
-  pub inside : r .end ≤ length text
-  pub small : r .value < numbers
-  pub found : r .plain ≡ true → drop from text ≡ decimal (r .value) ++ (x ∷ drop (r .end) text)
-  pub none : r .plain ≡ false → (n : ℕ) (more : List ℕ) → n < numbers → drop from text ≡ decimal n ++ (x ∷ more) → ⊥

@@ -6,7 +6,7 @@ ghost use Prim.Native.Nat.{_≤_, _<_, _+_, _*_, _-_};
 ghost use lib.Dec.{ltb};
 ghost use lib.ListN.{length, drop};
 ghost use Rattle.text.specs.Cut.{placeOf, sameText, startsWith, stride};
-ghost use Rattle.text.specs.Number.{isDigit, numbers, counted, uncounted, countedTo, countedAt, Led, NumberThen};
+ghost use Rattle.text.specs.Number.{isDigit, numbers, counted, uncounted, countedTo, countedThen, countedAt, Led};
 
 // How many bytes are passed over at a time.
 const STRIDE: usize = 4;
@@ -207,7 +207,7 @@ pub fn number_from(text: &[u8], from: usize) -> Counted
 // The number from a place on that has a byte behind it, and the place behind that.
 pub fn number_then(text: &[u8], from: usize, x: u8) -> Counted
     requires { ⌜ (from ≤ length (now text)) × (isDigit x ≡ false) ⌝ }
-    ensures { λ r. ⌜ NumberThen x from (now (text .entry)) r ⌝ }
+    ensures { λ r. ⌜ r ≡ countedThen x from (now (text .entry)) ⌝ }
 {
     let field = number_until(text, from, x);
     if !field.plain {

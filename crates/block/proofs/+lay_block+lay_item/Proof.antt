@@ -12,7 +12,7 @@ use Rattle.block_line.proofs.take_line.Reads as take-line-reads
 use Rattle.nest.proofs.close_repeat.Reads as close-repeat-reads
 use Rattle.nest.proofs.open_repeat.Reads as open-repeat-reads
 use Rattle.nest.proofs.put_pulse.Reads as put-pulse-reads
-use Rattle.block.proofs.Laying.{Going, going-start, going-size, going-asks, going-next, going-end, going-out, item-never, unshaped-moved, pulse-room, pulse-size, pulse-moved, repeat-opens, body-asks, repeat-closes, repeat-size, repeat-moved}
+use Rattle.block.proofs.Laying.{Going, going-start, going-size, going-later, going-far, going-asks, going-next, going-end, going-out, item-never, unshaped-moved, pulse-room, pulse-size, pulse-moved, repeat-opens, body-asks, repeat-closes, repeat-size, repeat-moved}
 use Rattle.block.proofs.is_end.Reads as is-end-reads
 use Rattle.block.proofs.lay_block.Reads as lay-block
 use Rattle.block.proofs.lay_block.Kinds as lay-block-kinds
@@ -68,16 +68,16 @@ lay-block-same-length : (t : ℕ) → lay-block-lts.Need-same-length (lay-block-
 lay-block-same-length t c = going-size (c .before .before .before .before .before .before .before .args .text .now) (c .before .before .before .before .before .before .before .args .at) (c .before .before .before .before .before .before .before .args .level) (c .before .before .before .before .before .before .before .args .heads .now) (c .before .before .before .before .before .before .before .args .words .now) (c .before .before .before .before .before .before .before .pre .1) (c .before .before .before .before .loop .inv)
 
 lay-block-returns : (t : ℕ) → lay-block-lts.Need-returns (lay-block-calls t) (lay-block-at t) lay-block.Post lay-block-Inv-loop lay-block-μ-loop
-lay-block-returns t c = going-end (c .before .before .before .before .before .before .before .args .text .now) (c .before .before .before .before .before .before .before .args .at) (c .before .before .before .before .before .before .before .args .level) (c .before .before .before .before .before .before .before .args .heads .now) (c .before .before .before .before .before .before .before .args .words .now) (c .before .before .before .before .before .before .before .pre .1) (c .before .before .before .before .loop .inv) (c .before .before .take-line .ensures) (sym (c .before .is-end .ensures) ∙ c .if1 .taken)
+lay-block-returns t c = going-end (c .before .before .before .before .before .before .before .args .text .now) (c .before .before .before .before .before .before .before .args .at) (c .before .before .before .before .before .before .before .args .level) (c .before .before .before .before .before .before .before .args .heads .now) (c .before .before .before .before .before .before .before .args .words .now) (c .before .before .before .before .before .before .before .pre .1) (c .before .before .before .before .loop .inv) (c .before .before .before .loop-test .taken) (c .before .before .take-line .ensures) (sym (c .before .is-end .ensures) ∙ c .if1 .taken)
 
 lay-block-lay-item-requires : (t : ℕ) → lay-block-lts.Need-lay-item-requires (lay-block-calls t) (lay-block-at t) lay-block.Post lay-block-Inv-loop lay-block-μ-loop
-lay-block-lay-item-requires t c κs = (omega (arith, c .before .before .before .before .before .before .before .before .before .pre .0, c .before .before .before .before .before .before .loop .inv .since, c .before .before .before .before .take-line .ensures .later, c .before .before .before .before .take-line .ensures .far), going-asks (c .before .before .before .before .before .before .before .before .before .args .text .now) (c .before .before .before .before .before .before .before .before .before .args .at) (c .before .before .before .before .before .before .before .before .before .args .level) (c .before .before .before .before .before .before .before .before .before .args .heads .now) (c .before .before .before .before .before .before .before .before .before .args .words .now) (c .before .before .before .before .before .before .before .before .before .pre .1) (c .before .before .before .before .before .before .loop .inv) (c .before .before .before .before .take-line .ensures) (sym (c .before .before .before .is-end .ensures) ∙ c .before .before .if1 .left))
+lay-block-lay-item-requires t c κs = (omega (arith, c .before .before .before .before .before .before .before .before .before .pre .0, c .before .before .before .before .before .before .loop .inv .since, (going-later (c .before .before .before .before .before .before .before .before .before .args .text .now) (c .before .before .before .before .before .before .before .before .before .args .at) (c .before .before .before .before .before .before .before .before .before .args .level) (c .before .before .before .before .before .before .before .before .before .args .heads .now) (c .before .before .before .before .before .before .before .before .before .args .words .now) (c .before .before .before .before .before .before .before .before .before .pre .1) (c .before .before .before .before .before .before .loop .inv) (c .before .before .before .before .before .loop-test .taken) (c .before .before .before .before .take-line .ensures)), (going-far (c .before .before .before .before .before .before .before .before .before .args .text .now) (c .before .before .before .before .before .before .before .before .before .args .at) (c .before .before .before .before .before .before .before .before .before .args .level) (c .before .before .before .before .before .before .before .before .before .args .heads .now) (c .before .before .before .before .before .before .before .before .before .args .words .now) (c .before .before .before .before .before .before .before .before .before .pre .1) (c .before .before .before .before .before .before .loop .inv) (c .before .before .before .before .before .loop-test .taken) (c .before .before .before .before .take-line .ensures))), going-asks (c .before .before .before .before .before .before .before .before .before .args .text .now) (c .before .before .before .before .before .before .before .before .before .args .at) (c .before .before .before .before .before .before .before .before .before .args .level) (c .before .before .before .before .before .before .before .before .before .args .heads .now) (c .before .before .before .before .before .before .before .before .before .args .words .now) (c .before .before .before .before .before .before .before .before .before .pre .1) (c .before .before .before .before .before .before .loop .inv) (c .before .before .before .before .before .loop-test .taken) (c .before .before .before .before .take-line .ensures) (sym (c .before .before .before .is-end .ensures) ∙ c .before .before .if1 .left))
 
 lay-block-loop-less : (t : ℕ) → lay-block-lts.Need-loop-less (lay-block-calls t) (lay-block-at t) lay-block.Post lay-block-Inv-loop lay-block-μ-loop
-lay-block-loop-less t c = omega (arith, c .before .before .before .before .before .before .before .take-line .ensures .later, c .before .before .lay-item .ensures .later, c .before .before .lay-item .ensures .far)
+lay-block-loop-less t c = omega (arith, (going-later (c .before .before .before .before .before .before .before .before .before .before .before .before .args .text .now) (c .before .before .before .before .before .before .before .before .before .before .before .before .args .at) (c .before .before .before .before .before .before .before .before .before .before .before .before .args .level) (c .before .before .before .before .before .before .before .before .before .before .before .before .args .heads .now) (c .before .before .before .before .before .before .before .before .before .before .before .before .args .words .now) (c .before .before .before .before .before .before .before .before .before .before .before .before .pre .1) (c .before .before .before .before .before .before .before .before .before .loop .inv) (c .before .before .before .before .before .before .before .before .loop-test .taken) (c .before .before .before .before .before .before .before .take-line .ensures)), c .before .before .lay-item .ensures .later, c .before .before .lay-item .ensures .far)
 
 lay-block-loop-again : (t : ℕ) → lay-block-lts.Need-loop-again (lay-block-calls t) (lay-block-at t) lay-block.Post lay-block-Inv-loop lay-block-μ-loop
-lay-block-loop-again t c = going-next (c .before .before .before .before .before .before .before .before .before .before .before .before .args .text .now) (c .before .before .before .before .before .before .before .before .before .before .before .before .args .at) (c .before .before .before .before .before .before .before .before .before .before .before .before .args .level) (c .before .before .before .before .before .before .before .before .before .before .before .before .args .heads .now) (c .before .before .before .before .before .before .before .before .before .before .before .before .args .words .now) (c .before .before .before .before .before .before .before .before .before .before .before .before .pre .1) (c .before .before .before .before .before .before .before .before .before .loop .inv) (c .before .before .before .before .before .before .before .take-line .ensures) (c .before .before .lay-item .ensures)
+lay-block-loop-again t c = going-next (c .before .before .before .before .before .before .before .before .before .before .before .before .args .text .now) (c .before .before .before .before .before .before .before .before .before .before .before .before .args .at) (c .before .before .before .before .before .before .before .before .before .before .before .before .args .level) (c .before .before .before .before .before .before .before .before .before .before .before .before .args .heads .now) (c .before .before .before .before .before .before .before .before .before .before .before .before .args .words .now) (c .before .before .before .before .before .before .before .before .before .before .before .before .pre .1) (c .before .before .before .before .before .before .before .before .before .loop .inv) (c .before .before .before .before .before .before .before .before .loop-test .taken) (c .before .before .before .before .before .before .before .take-line .ensures) (c .before .before .lay-item .ensures)
 
 lay-block-same-length-2 : (t : ℕ) → lay-block-lts.Need-same-length-2 (lay-block-calls t) (lay-block-at t) lay-block.Post lay-block-Inv-loop lay-block-μ-loop
 lay-block-same-length-2 t c = going-size (c .before .before .before .before .args .text .now) (c .before .before .before .before .args .at) (c .before .before .before .before .args .level) (c .before .before .before .before .args .heads .now) (c .before .before .before .before .args .words .now) (c .before .before .before .before .pre .1) (c .before .loop .inv)

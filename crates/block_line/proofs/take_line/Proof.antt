@@ -12,7 +12,7 @@ take-pulse-requires : tie.Need-take-pulse-requires
 take-pulse-requires c κs = (c .before .held-at .ensures, c .if1 .taken)
 
 returns : tie.Need-returns
-returns c = c .take-pulse .ensures
+returns c = search needs
 
 slice-aggregate-starts-with : tie.Need-slice-aggregate-starts-with
 slice-aggregate-starts-with c = search needs
@@ -24,7 +24,7 @@ take-repeat-requires : tie.Need-take-repeat-requires
 take-repeat-requires c κs = sym (c .before .starts-with .ensures) ∙ c .if2 .taken
 
 returns-2 : tie.Need-returns-2
-returns-2 c = c .take-repeat .ensures
+returns-2 c = search needs
 
 slice-aggregate-starts-with-2 : tie.Need-slice-aggregate-starts-with-2
 slice-aggregate-starts-with-2 c = search needs
@@ -38,8 +38,11 @@ add-t14 c = search needs
 returns-3 : tie.Need-returns-3
 returns-3 c = end-taken (c .before .before .before .before .before .before .before .before .before .args .text .now) (c .before .before .before .before .before .before .before .before .before .args .at) (sym (c .before .starts-with2 .ensures) ∙ c .if3 .taken)
 
+unshaped-requires : tie.Need-unshaped-requires
+unshaped-requires c κs = search needs
+
 returns-4 : tie.Need-returns-4
-returns-4 c = nameless (c .before .before .before .before .before .before .before .before .before .args .text .now) (c .before .before .before .before .before .before .before .before .before .args .at) (c .before .before .before .before .before .before .before .before .before .pre) (sym (c .before .before .before .before .before .before .if1 .left) ∙ c .before .before .before .before .before .before .before .held-at .ensures) (sym (c .before .before .before .before .starts-with .ensures) ∙ c .before .before .before .if2 .left) (sym (c .before .starts-with2 .ensures) ∙ c .if3 .left)
+returns-4 c = nameless (c .before .before .before .before .before .before .before .before .before .before .args .text .now) (c .before .before .before .before .before .before .before .before .before .before .args .at) (c .before .before .before .before .before .before .before .before .before .before .pre) (c .unshaped .ensures) (sym (c .before .before .before .before .before .before .before .if1 .left) ∙ c .before .before .before .before .before .before .before .before .held-at .ensures) (sym (c .before .before .before .before .before .starts-with .ensures) ∙ c .before .before .before .before .if2 .left) (sym (c .before .before .starts-with2 .ensures) ∙ c .before .if3 .left)
 
 pub take-line-spec : {M : Type 1} → statement M
 take-line-spec =
@@ -56,4 +59,5 @@ take-line-spec =
     starts-with-requires-2
     add-t14
     returns-3
+    unshaped-requires
     returns-4)
