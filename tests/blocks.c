@@ -375,17 +375,12 @@ static void try_damages(uint64_t count)
 static void try_damage(uint64_t k) { (void)k, try_damages(1); }
 static void try_more_damages(uint64_t k) { try_damages(2 + k % 4); }
 
-/* Every byte put in the place of every byte of a text, and between any two. */
 static void try_byte(uint64_t k)
 {
-    size_t at = k / 512;
     len = 0;
     wave = 8;
     put_bytes("repeat\t2\nplay\t0\t2\nhold\t7\t3\nend\n");
-    if (k / 256 % 2)
-        add(at < len ? at : len, (uint8_t)k);
-    else if (at < len)
-        text[at] = (uint8_t)k;
+    stray_byte(k);
     try_block(k % 5 ? 8 : 7);
 }
 

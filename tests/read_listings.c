@@ -340,16 +340,11 @@ static void try_long(uint64_t k)
     try_read(2048);
 }
 
-/* Every byte put in the place of every byte of a text, and between any two. */
 static void try_byte(uint64_t k)
 {
-    size_t at = k / 512;
     start_text(0);
     put_bytes("0\tCMP\t1\t0\t3\t255\n1\tNOOP\n2\tWAIT\t0\t1\n");
-    if (k / 256 % 2)
-        add(at < len ? at : len, (uint8_t)k);
-    else if (at < len)
-        text[at] = (uint8_t)k;
+    stray_byte(k);
     try_read(k % 5 ? 3 : 2);
 }
 

@@ -87,6 +87,16 @@ static inline void splice(size_t at, size_t cut, const uint8_t *bytes, size_t n)
 static inline void drop(size_t at, size_t n) { splice(at, n, text, 0); }
 static inline void add(size_t at, uint8_t byte) { splice(at, 0, &byte, 1); }
 
+/* As k counts up: every byte in the place of every byte of the text, and between any two. */
+static inline void stray_byte(uint64_t k)
+{
+    size_t at = k / 512;
+    if (k / 256 % 2)
+        add(at < len ? at : len, (uint8_t)k);
+    else if (at < len)
+        text[at] = (uint8_t)k;
+}
+
 static inline uint8_t odd_byte(void)
 {
     static const char bytes[] = "\t\n\r 0123456789ABCDEGLMNOPRSTWY_adehlnoprty+-\377";

@@ -1,11 +1,11 @@
 -- Laws of a line that is taken: the lines go on behind it; and its name stands there, then its numbers, or it has no shape.
 -- Assumes nothing.
 use Prim.Native.Nat.{ℕ, _+_, _≤_, _<_}
-use mathlib.Core.Path.{_≡_, refl, sym, ap, _∙_}
+use mathlib.Core.Path.{_≡_, refl, sym, ap, subst, _∙_}
 use mathlib.Core.Bool.{Bool, true, false}
 use mathlib.Core.List.{List, [], _∷_, _++_, map, append-assoc}
 use native.Mathlib.Omega.{arith}
-use lib.ListN.{length, getD, drop, length-append, length-drop}
+use lib.ListN.{length, drop, length-append, length-drop}
 use lib.Seq.{drop-drop}
 use Rattle.instruction.specs.Bits.{pick}
 use Rattle.text.specs.Cut.{tab, lineFeed, before, rowsIn, placeOf, startsWith}
@@ -15,7 +15,7 @@ use Rattle.text.specs.declared.Counted.{Counted}
 use Rattle.text.proofs.Alike.{starts-text}
 use Rattle.text.proofs.Back.{decimal-free, has-append, NumberThen, then-read}
 use Rattle.text.proofs.Bools.{never}
-use Rattle.text.proofs.Cuts.{behind, behind-piece, place-past}
+use Rattle.text.proofs.Cuts.{has, behind, behind-piece, place-past}
 use Rattle.nest.specs.declared.Line.{Line}
 use Rattle.nest.specs.declared.Line.the-variants.{Pulse, Repeat, End, Unshaped}
 use Rattle.block_line.specs.Line.{pulseOf, lineOf}
@@ -108,10 +108,6 @@ module _ (bs : List ℕ) (p : startsWith playName bs ≡ false) where
   pub held-none : startsWith holdName bs ≡ false → 2 ≡ heldIn bs
   held-none q = rw (p, q)
 
--- another letter stands there
-clash : {A : Type 0} {s t : List ℕ} → s ≡ t → (getD s 0 0 ≡ getD t 0 0 → ⊥) → A
-clash e n = absurd (n (ap (λ (l : List ℕ). getD l 0 0) e))
-
 -- ---- no shape
 
 module _ (text : List ℕ) (at : ℕ) (h : at < length text) {t : Taken} (u : t ≡ taken Unshaped (length text)) where
@@ -160,10 +156,10 @@ module _ (text : List ℕ) (at : ℕ) (e : startsWith repeatName (drop at text) 
       where
         by : First text at → t ≡ takenAt text at
         by (unshaped rest f) = none-taken text at (omega (arith, repeat-inside)) u f
-        by (playing a b more k l f) = clash (sym at-repeat ∙ f) (λ z. omega (arith, z))
-        by (holding a b more k l f) = clash (sym at-repeat ∙ f) (λ z. omega (arith, z))
-        by (repeating a more k f) = absurd (count .none p a more k (ap (drop 7) (sym at-repeat ∙ f)))
-        by (ending more f) = clash (sym at-repeat ∙ f) (λ z. omega (arith, z))
+        by (playing a b more k l f) = never (sym e ∙ ap (startsWith repeatName) f)
+        by (holding a b more k l f) = never (sym e ∙ ap (startsWith repeatName) f)
+        by (repeating a more k f) = absurd (count .none p a more k (sym (drop-drop 7 at text) ∙ ap (drop 7) f))
+        by (ending more f) = never (sym e ∙ ap (startsWith repeatName) f)
 
     pub repeat-taken : r .plain ≡ true → taken (Repeat (r .value)) (r .end) ≡ takenAt text at
     repeat-taken p = taken-is text at (omega (arith, repeat-inside)) lines (count .ends p ∙ ap (λ (k : ℕ). k + 1) (sym feed-is))
@@ -178,73 +174,24 @@ module _ (text : List ℕ) (at : ℕ) (e : startsWith repeatName (drop at text) 
 
 -- ---- a play or hold
 
--- what follows from its name: the numbers behind it make it, and without them it is none
+-- its name stands there, and two numbers behind that make the line
 record Begun (text : List ℕ) (at ta : ℕ) : Type 0 where
+  name : List ℕ
+  free : has lineFeed name ≡ false
   inside : at + 5 ≤ length text
-  feed : placeOf lineFeed at text ≡ placeOf lineFeed (at + 5) text
-  made : (a b : ℕ) (more : List ℕ) → a < numbers → b < numbers → drop (at + 5) text ≡ twoNumbers a b more
-      → linesFrom text at ≡ Pulse (pulseOf ta (a ∷ b ∷ [])) ∷ map lineOf (rowsIn more)
-  none : ((a b : ℕ) (more : List ℕ) → a < numbers → b < numbers → drop (at + 5) text ≡ twoNumbers a b more → ⊥)
-      → (rest : List Line) × (linesFrom text at ≡ Unshaped ∷ rest)
-
-begun-play : (text : List ℕ) (at ta : ℕ) → ta ≡ 0 → startsWith playName (drop at text) ≡ true → Begun text at ta
-begun-play text at ta z e =
-    record {
-      inside = inside;
-      feed = place-past lineFeed playName text at (at + 5) refl (omega (arith, inside)) inside at-name;
-      made = λ a b more k l f.
-          ap (λ (s : List ℕ). map lineOf (rowsIn s)) (at-name ∙ ap (λ (s : List ℕ). playName ++ s) f)
-          ∙ play-read a b more k l
-          ∙ ap (λ (t : ℕ). Pulse (pulseOf t (a ∷ b ∷ [])) ∷ map lineOf (rowsIn more)) (sym z);
-      none = λ n. by n (first-line text at (omega (arith, inside)));
-    }
-  where
-    at-name : drop at text ≡ playName ++ drop (at + 5) text
-    at-name = name-text playName text at e
-
-    inside : at + 5 ≤ length text
-    inside = name-inside playName text at e (omega arith)
-
-    by : ((a b : ℕ) (more : List ℕ) → a < numbers → b < numbers → drop (at + 5) text ≡ twoNumbers a b more → ⊥) → First text at
-        → (rest : List Line) × (linesFrom text at ≡ Unshaped ∷ rest)
-    by n (unshaped rest f) = (rest, f)
-    by n (playing a b more k l f) = absurd (n a b more k l (ap (drop 5) (sym at-name ∙ f)))
-    by n (holding a b more k l f) = clash (sym at-name ∙ f) (λ y. omega (arith, y))
-    by n (repeating a more k f) = clash (sym at-name ∙ f) (λ y. omega (arith, y))
-    by n (ending more f) = clash (sym at-name ∙ f) (λ y. omega (arith, y))
-
-begun-hold : (text : List ℕ) (at ta : ℕ) → ta ≡ 1 → startsWith holdName (drop at text) ≡ true → Begun text at ta
-begun-hold text at ta z e =
-    record {
-      inside = inside;
-      feed = place-past lineFeed holdName text at (at + 5) refl (omega (arith, inside)) inside at-name;
-      made = λ a b more k l f.
-          ap (λ (s : List ℕ). map lineOf (rowsIn s)) (at-name ∙ ap (λ (s : List ℕ). holdName ++ s) f)
-          ∙ hold-read a b more k l
-          ∙ ap (λ (t : ℕ). Pulse (pulseOf t (a ∷ b ∷ [])) ∷ map lineOf (rowsIn more)) (sym z);
-      none = λ n. by n (first-line text at (omega (arith, inside)));
-    }
-  where
-    at-name : drop at text ≡ holdName ++ drop (at + 5) text
-    at-name = name-text holdName text at e
-
-    inside : at + 5 ≤ length text
-    inside = name-inside holdName text at e (omega arith)
-
-    by : ((a b : ℕ) (more : List ℕ) → a < numbers → b < numbers → drop (at + 5) text ≡ twoNumbers a b more → ⊥) → First text at
-        → (rest : List Line) × (linesFrom text at ≡ Unshaped ∷ rest)
-    by n (unshaped rest f) = (rest, f)
-    by n (playing a b more k l f) = clash (sym at-name ∙ f) (λ y. omega (arith, y))
-    by n (holding a b more k l f) = absurd (n a b more k l (ap (drop 5) (sym at-name ∙ f)))
-    by n (repeating a more k f) = clash (sym at-name ∙ f) (λ y. omega (arith, y))
-    by n (ending more f) = clash (sym at-name ∙ f) (λ y. omega (arith, y))
+  there : drop at text ≡ name ++ drop (at + 5) text
+  read : (a b : ℕ) (more : List ℕ) → a < numbers → b < numbers → map lineOf (rowsIn (name ++ twoNumbers a b more)) ≡ Pulse (pulseOf ta (a ∷ b ∷ [])) ∷ map lineOf (rowsIn more)
 
 begun : (text : List ℕ) (at ta : ℕ) → ta ≡ heldIn (drop at text) → (ta ≡ 2 → ⊥) → Begun text at ta
 begun text at ta e n = by (startsWith playName (drop at text)) refl (startsWith holdName (drop at text)) refl e
   where
     by : (p : Bool) → startsWith playName (drop at text) ≡ p → (q : Bool) → startsWith holdName (drop at text) ≡ q → ta ≡ pick p 0 (pick q 1 2) → Begun text at ta
-    by true f q g z = begun-play text at ta z f
-    by false f true g z = begun-hold text at ta z g
+    by true f q g z =
+        subst (Begun text at) (sym z)
+        (record { name = playName; free = refl; inside = name-inside playName text at f (omega arith); there = name-text playName text at f; read = play-read })
+    by false f true g z =
+        subst (Begun text at) (sym z)
+        (record { name = holdName; free = refl; inside = name-inside holdName text at g (omega arith); there = name-text holdName text at g; read = hold-read })
     by false f false g z = absurd (n z)
 
 module _ (text : List ℕ) (at ta : ℕ) (s : (ta ≡ heldIn (drop at text)) × (ta ≡ 2 → ⊥)) where
@@ -257,9 +204,17 @@ module _ (text : List ℕ) (at ta : ℕ) (s : (ta ≡ heldIn (drop at text)) × 
   some : at < length text
   some = omega (arith, pulse-inside)
 
+  -- without the two numbers it has no shape
   unmade : ((a b : ℕ) (more : List ℕ) → a < numbers → b < numbers → drop (at + 5) text ≡ twoNumbers a b more → ⊥)
       → {t : Taken} → t ≡ taken Unshaped (length text) → t ≡ takenAt text at
-  unmade n u = none-taken text at some u (start .none n .1)
+  unmade n {t = t} u = by (first-line text at some)
+    where
+      by : First text at → t ≡ takenAt text at
+      by (unshaped rest f) = none-taken text at some u f
+      by (playing a b more k l f) = absurd (n a b more k l (sym (drop-drop 5 at text) ∙ ap (drop 5) f))
+      by (holding a b more k l f) = absurd (n a b more k l (sym (drop-drop 5 at text) ∙ ap (drop 5) f))
+      by (repeating a more k f) = absurd (s .1 (s .0 ∙ ap heldIn f))
+      by (ending more f) = absurd (s .1 (s .0 ∙ ap heldIn f))
 
   module _ {r : Counted} (c : r ≡ countedThen tab (at + 5) text) where
     address : NumberThen tab (at + 5) text r
@@ -291,12 +246,13 @@ module _ (text : List ℕ) (at ta : ℕ) (s : (ta ≡ heldIn (drop at text)) × 
         where
           lines : linesFrom text at ≡ Pulse (pulseOf ta (r .value ∷ r′ .value ∷ [])) ∷ linesFrom text (r′ .end)
           lines =
-              start .made (r .value) (r′ .value) (drop (r′ .end) text) (address .small) (count-there .small)
-              (address .found p ∙ ap (λ (l : List ℕ). decimal (r .value) ++ (tab ∷ l)) (count-there .found q))
+              ap (λ (l : List ℕ). map lineOf (rowsIn l))
+              (start .there ∙ ap (λ (l : List ℕ). start .name ++ l) (address .found p ∙ ap (λ (l : List ℕ). decimal (r .value) ++ (tab ∷ l)) (count-there .found q)))
+              ∙ start .read (r .value) (r′ .value) (drop (r′ .end) text) (address .small) (count-there .small)
 
           feed-is : placeOf lineFeed at text ≡ placeOf lineFeed (r .end) text
           feed-is =
-              start .feed
+              place-past lineFeed (start .name) text at (at + 5) (start .free) (omega (arith, pulse-inside)) pulse-inside (start .there)
               ∙ place-past lineFeed (decimal (r .value) ++ (tab ∷ [])) text (at + 5) (r .end)
               (has-append lineFeed (decimal (r .value)) (tab ∷ []) (decimal-free lineFeed (r .value) refl) refl) pulse-inside address-inside
               (address .found p ∙ sym (append-assoc (decimal (r .value)) (tab ∷ []) (drop (r .end) text)))

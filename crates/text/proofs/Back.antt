@@ -15,7 +15,7 @@ use Rattle.text.specs.Cut.{tab, lineFeed, cut, before, placeOf, rowsIn}
 use Rattle.text.specs.Number.{isDigit, allDigits, plain, value, numbers, isNumber, counted, uncounted, fieldTo, countedTo, countedThen}
 use Rattle.text.specs.declared.Counted.{Counted}
 use Rattle.text.specs.Line.{Entry, name, number, letters, decimal, entryText, lineText, Line}
-use Rattle.text.proofs.Cuts.{has, has-whole, before-piece, joined, noneHas, cut-joined, found-order, found-has, found-behind}
+use Rattle.text.proofs.Cuts.{has, has-whole, before-piece, joined, noneHas, cut-joined, found-has, found-behind}
 use Rattle.text.proofs.Decimals.{decimal-value, decimal-digits, decimal-plain, plain-decimal}
 use Rattle.text.proofs.Rows.{rows-line}
 use Rattle.text.proofs.Bools.{both, joins, never}
@@ -74,10 +74,7 @@ allClean (e ∷ es) = clean e && allClean es
 -- ---- what a field has not
 
 free-of : (x b : ℕ) → isDigit x ≡ false → isDigit b ≡ true → eqb b x ≡ false
-free-of x b e f = ne-eqb b x (λ h. let z : _≡_ {A = ℕ} 0 1 = absurd (clash (sym f ∙ ap isDigit h ∙ e)) in omega arith)
-  where
-    clash : true ≡ false → ⊥
-    clash c = let z : _≡_ {A = ℕ} 0 1 = cc in omega arith
+free-of x b e f = ne-eqb b x (λ h. never (sym f ∙ ap isDigit h ∙ e))
 
 digits-free : (x : ℕ) (bs : List ℕ) → isDigit x ≡ false → allDigits bs ≡ true → has x bs ≡ false
 digits-free x [] e f = refl
@@ -100,7 +97,6 @@ has-append x (b ∷ p) q e f = by (eqb b x) e (has-append x p q)
 
 -- both stand there and are read up to what follows, or there is no such number
 pub record NumberThen (x from : ℕ) (text : List ℕ) (r : Counted) : Type 0 where
-  pub order : from ≤ r .end
   pub inside : r .end ≤ length text
   pub small : r .value < numbers
   pub found : r .plain ≡ true → drop from text ≡ decimal (r .value) ++ (x ∷ drop (r .end) text)
@@ -151,7 +147,6 @@ module _ (x from : ℕ) (text : List ℕ) where
         by false f g =
             rw g
             record {
-              order = omega arith;
               inside = h;
               small = omega arith;
               found = λ t. never (sym t);
@@ -163,7 +158,6 @@ module _ (x from : ℕ) (text : List ℕ) where
             let l = ltb-true place (length text) (b .1) in
             rw g
             record {
-              order = omega (arith, found-order x from text {r = place} refl);
               inside = omega (arith, l);
               small = ltb-true (value field) numbers (both (plain field) (ltb (value field) numbers) (b .0) .1);
               found = λ t.
