@@ -41,9 +41,9 @@ uint64_t aps2_check(const uint64_t *words, size_t n, uint64_t wave, uint64_t fir
    dispatched words, at most `budget` steps. Returns how it ended: 1, 2, 3 or 5 for refused input (zeros beside it, the trace
    untouched), a number of the word it stopped at, 10, 111 to 113, 12 to 22 or 24, a fault, 30 to 32, or 40 to 43. The trace then starts
    with what was dispatched, and the rest of it is untouched. answer: 0 end, 1 address, 2 steps, 3 messages used, 4 trace length,
-   5-10 wait counts and 11-16 totals in quad-samples (waveform, markers 0 to 3, modulator), 17 repeat counter, 18 register,
-   19 condition (0 none, 1 false, 2 true), 20 held, 21 depth, 22-37 stack addresses, 38-53 stack counters, 54 the bit
-   beside the end. */
+   5-10 wait counts and 11-16 totals in quad-samples (waveform, markers 0 to 3, modulator; a play adds its count, and one more for
+   the transition word where it is a marker's), 17 repeat counter, 18 register, 19 condition (0 none, 1 false, 2 true), 20 held,
+   21 depth, 22-37 stack addresses, 38-53 stack counters, 54 the bit beside the end. */
 uint64_t aps2_run(const uint64_t *words, size_t n, uint64_t wave, uint64_t firmware, const uint8_t *messages, size_t messages_len,
                   uint32_t triggers, uint64_t *trace, size_t trace_len, uint64_t budget, uint64_t answer[55]);
 

@@ -1,4 +1,4 @@
-/* The run: document 01, "One step", and document 02, requests 2 and 3, in place on one state.
+/* The run: document 01, "One step", and document 02, requests 2, 3 and 6, in place on one state.
    The single numbers of the state stand apart from its lists, so that they can stay in registers. */
 #include "word.h"
 
@@ -35,7 +35,7 @@ static void count(struct lists *l, uint64_t word)
     case MARKER:
         engine = 1 + GET(word, 59, 58);
         if (op == 0)
-            l->totals[engine] += GET(word, 31, 0);
+            l->totals[engine] += GET(word, 31, 0) + 1; /* its transition word */
         if (op == 1)
             l->waits[engine]++;
         break;

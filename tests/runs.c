@@ -404,6 +404,70 @@ static void long_runs(void)
     family("run: the full million steps");
 }
 
+/* A word for an engine (waveform, markers 0 to 3, modulator), its write flag low, and what it adds to that engine's total: H7 with document 02,
+   request 6, worked out from the count that is asked for. Waits, a prefetch and a phase add nothing. */
+static uint64_t word_for(int engine, int plays, uint64_t count, uint64_t *adds)
+{
+    static const uint64_t idle[] = { MODULATOR_OP(1) | NCO(3), MODULATOR_OP(2), MODULATOR_OP(3) | NCO(1) | 9, MODULATOR_OP(4), MODULATOR_OP(7) | NCO(2) | 9 };
+    const uint64_t longest = UINT64_C(0x1FFFFF), select = engine_select();
+    if (engine == 0 && count > longest)
+        count = longest;
+    *adds = !plays ? 0 : engine == 0 || engine == 5 ? count : count + 1;
+    if (engine == 0)
+        return OP(0, select | (plays ? below(2) << 45 | count << 24 : (1 + below(3)) << 46));
+    if (engine == 5)
+        return OP(10, select | (plays ? NCO(1) << below(2) | count : idle[below(5)]));
+    return OP(1, (uint64_t)(engine - 1) << 58 | (plays ? below(32) << 32 | count : (1 + below(2)) << 46));
+}
+
+/* A sequence that goes round: the totals are those of one round, times the rounds. */
+static void try_pulses(size_t n, const uint64_t round[6], uint64_t rounds)
+{
+    words[n] = OP(6, 0);
+    struct input in = { n + 1, 0, ROOM, 16777216, (n + 1) * rounds, 0 };
+    uint64_t end = try_run(in);
+    for (int k = 0; k < 6; k++)
+        if ((end != 40 || ours[11 + k] != round[k] * rounds) && !failed++)
+            show(&in), printf("  total %d: %llu, where %llu is expected\n", k, (unsigned long long)ours[11 + k], (unsigned long long)(round[k] * rounds));
+}
+
+/* Each engine's plays and waits alone, with every count. One that older firmware does not take is for the current one. */
+static void lone_pulses(void)
+{
+    for (int k = 0; k < 6 * 2 * (FIT - 2); k++) {
+        int engine = k / 2 % 6, plays = k % 2;
+        uint64_t count = count_at(2 + (uint64_t)k / 12), round[6] = { 0 };
+        words[0] = word_for(engine, plays, count, &round[engine]) | HIGH;
+        firmware = count < WIDE ? any_firmware() : 0;
+        try_pulses(1, round, 1 + below(2000));
+    }
+}
+
+/* Many of them, in groups. */
+static void grouped_pulses(void)
+{
+    for (int k = 0; k < 3000; k++) {
+        uint64_t round[6] = { 0 }, adds, wide = below(2);
+        size_t n = 1 + below(40), low = 0;
+        for (size_t a = 0; a < n; a++) {
+            int engine = (int)below(6);
+            words[a] = word_for(engine, below(4) != 0, wide ? count_at(2 + below(FIT - 2)) : 2 + below(WIDE - 2), &adds);
+            round[engine] += adds;
+            low = a + 1 == n || low == 7 || below(2) ? 0 : low + 1;
+            words[a] |= low ? 0 : HIGH;
+        }
+        firmware = wide ? 0 : any_firmware();
+        try_pulses(n, round, 1 + below(90));
+    }
+}
+
+static void pulses(void)
+{
+    lone_pulses();
+    grouped_pulses();
+    family_of("run: totals, with one quad-sample more for a marker's play", (const int[]){ 40, -1 });
+}
+
 /* A case of document 01: what is expected at some places of the answer. */
 static void expect(struct input in, const uint64_t *case_words, const uint64_t *places, size_t count)
 {
@@ -478,6 +542,7 @@ int main(void)
     damaged();
     unnamed();
     markers();
+    pulses();
     laws();
     bad_words_and_bad_input();
     nests();

@@ -119,7 +119,7 @@ static void run_cases(void)
         if (!good)
             disagree(compared);
     }
-    family_of("vectors: run", (const int[]){ 24, 40, 111, 112, -1 });
+    family_of("vectors: run", (const int[]){ 15, 16, 24, 40, 112, 113, -1 });
 }
 
 /* Marks are hexadecimal, and all 1 before. */

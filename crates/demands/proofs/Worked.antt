@@ -1,4 +1,4 @@
--- `worked-sequences`: P1 to P12 by computation; the flow of each that comes so far by a list of places that the walk cannot leave.
+-- `worked-sequences`: P1 to P12 by computation, `worked-pulses` too; the flow of each that comes so far by a list of places that the walk cannot leave.
 -- `p10-no-run-falls-off`: every second step is back at address 0. Assumes nothing.
 use mathlib.Core.Path.{_≡_, refl, ap, subst}
 use mathlib.Core.Bool.{Bool, true, false, not}
@@ -10,6 +10,7 @@ use native.Mathlib.Omega.{arith}
 use borrow.Author.Tests.{eqb-true, not-false}
 use lib.Dec.{ltb, eqb}
 use lib.ListN.{length}
+use Rattle.instruction.specs.Rules.{current}
 use Rattle.instruction.specs.Form.{numbered, formOf}
 use Rattle.instruction.specs.Word.{spelledBy}
 use Rattle.instruction.specs.declared.Rules.{Rules}
@@ -33,7 +34,7 @@ use Rattle.verdict.specs.Check.{WordsAre, CheckIs}
 use Rattle.verdict.specs.declared.Verdict.{Verdict}
 use Rattle.verdict.proofs.Unique.{one-words, one-flow}
 use Rattle.verdict.proofs.Words.{input-none}
-use Rattle.demands.specs.Worked.{fourWords, twoWords, table, WorkedSequences, NoRunFallsOff}
+use Rattle.demands.specs.Worked.{fourWords, twoWords, table, pulses, WorkedSequences, NoRunFallsOff}
 use Rattle.demands.proofs.Certificate.{at, no-fault, no-lower}
 
 -- ---- what settles a check
@@ -115,6 +116,10 @@ worked-sequences rules =
     also (by-word rules 0 (0x2100000000000000 ∷ []) (verdict (numbered 12) 0) refl (check.first {a = 0} (omega arith) (λ b l. absurd (omega arith)) (λ z. omega (arith, z))) (λ z. omega (arith, z)) also tt)
     also (refl also refl also refl also tt)
     also tt
+
+pub worked-pulses : WorkedSequences current pulses
+unfolding readingOf formIn hasKind highestStray notItsOp formOf spelledBy placingOf lengthsRefused inputRefused rehearse runOf stepOf withReading executeOf actOf engineWordOf sendOf
+worked-pulses = (refl also refl also tt) also (refl also tt) also tt
 
 -- ---- P10 goes round and round
 

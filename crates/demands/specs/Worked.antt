@@ -1,8 +1,8 @@
--- The worked sequences of document 01 ("P is proved"): P1 to P12, one table under one claim about the definitions, check and run alike.
--- A row says of the answer what document 01 says, and no more; that no run of P10 falls off stands last.
+-- The worked sequences of document 01 ("P is proved"): P1 to P12, one table under one claim about the definitions, check and run alike; and H7 as
+-- document 02, request 6, amends it. A row says of the answer what the document says, and no more; that no run of P10 falls off stands last.
 use mathlib.Core.Path.{_≡_}
 use mathlib.Core.List.{List, [], _∷_}
-use Prim.Native.Nat.{ℕ, _≤_}
+use Prim.Native.Nat.{ℕ, _+_, _^_, _≤_}
 use lib.ListN.{length, getD, replicate}
 use Rattle.instruction.specs.Form.{numbered}
 use Rattle.instruction.specs.declared.Rules.{Rules}
@@ -22,6 +22,7 @@ pub data Says : Type 0 where
   steps : ℕ → Says
   trace : ℕ → Says
   waveformTotal : ℕ → Says
+  totals : List ℕ → Says
   allWaits : ℕ → Says
   counter : ℕ → Says
   register : ℕ → Says
@@ -84,6 +85,15 @@ table =
     ∷ ran (0xB000000000000000 ∷ 0x6000000000000000 ∷ []) 0 (7 ∷ []) 0 10 (ends 42 ∷ steps 2 ∷ register 7 ∷ [])
     ∷ []
 
+abbrev pub pulses : List Row
+pulses =
+    -- document 02, request 6: "A marker play adds count + 1": 2, 2^20 and 2^32 - 1 on markers 0 to 2, a wait on marker 3; waveform and modulator add count
+    ran (0x1100000000000002 ∷ 0x1500000000100000 ∷ 0x19000000FFFFFFFF ∷ 0x1D00400000000000 ∷ 0x0100000004000001 ∷ 0xA100010000000004 ∷ []) 5 [] 0 6
+    (ends 40 ∷ totals (4 ∷ 3 ∷ (2 ^ 20 + 1) ∷ (2 ^ 32) ∷ 0 ∷ 4 ∷ []) ∷ [])
+    -- "16 count below 2 in play": the count alone
+    ∷ ran (0x1100000000000001 ∷ []) 0 [] 0 1 (ends 16 ∷ [])
+    ∷ []
+
 -- ---- the claim
 
 abbrev pub answerOf : Rules → Row → Did
@@ -98,6 +108,7 @@ Holds rules r (address a) = answerOf rules r .state .core .address .0 ≡ a
 Holds rules r (steps k) = answerOf rules r .state .core .steps ≡ k
 Holds rules r (trace k) = length (answerOf rules r .out) ≡ k
 Holds rules r (waveformTotal k) = getD (answerOf rules r .state .totals) 0 0 ≡ k
+Holds rules r (totals l) = answerOf rules r .state .totals ≡ l
 Holds rules r (allWaits k) = answerOf rules r .state .waits ≡ replicate engineCount k
 Holds rules r (counter k) = answerOf rules r .state .core .counter ≡ k
 Holds rules r (register k) = answerOf rules r .state .core .register ≡ k

@@ -18,7 +18,7 @@ use Rattle.instruction.specs.declared.Body.{Body}
 use Rattle.instruction.specs.declared.Body.the-variants.{Wait}
 use Rattle.sequence.proofs.Laws.{on-engine}
 use Rattle.dispatch.specs.Engines.{engineOf, waitsFor, playsFor, waitsAfter, totalsAfter, waitsOver, totalsOver, Six, Counted}
-use Rattle.dispatch.specs.Counting.{shareIn, Small, CountedOne}
+use Rattle.dispatch.specs.Counting.{countIn, shareIn, Small, CountedOne}
 use Rattle.dispatch.specs.Trace.{part}
 use Rattle.dispatch.specs.declared.Share.{Share}
 use Rattle.dispatch.proofs.Lists.{all-get, all-set, all-more, all-plus}
@@ -43,29 +43,41 @@ waits-small =
     (λ f. picks (λ (k : ℕ). k ≤ 1) (eqb (f .op) 2) (λ t. omega arith) (λ t. omega arith))
     (omega arith)
 
--- by op code: the widest counts have 32 bits
+-- by op code: the widest counts have 32 bits, so that a marker's transition word still has room
 abbrev Low : ℕ → Type 0
 Low k = k ≤ 2 ^ 32
 
-plays-of : (w n : ℕ) → Low (playsFor (bodyOf n (valuesIn n w)))
-plays-of w zero = picks Low (plays (getD (valuesIn 0 w) 0 0)) (λ t. omega arith) (λ t. omega arith)
-plays-of w (suc zero) = picks Low (plays (getD (valuesIn 1 w) 0 0)) (λ t. omega arith) (λ t. omega arith)
-plays-of w (suc (suc zero)) = omega arith
-plays-of w (suc (suc (suc zero))) = omega arith
-plays-of w (suc (suc (suc (suc zero)))) = omega arith
-plays-of w (suc (suc (suc (suc (suc zero))))) = omega arith
-plays-of w (suc (suc (suc (suc (suc (suc zero)))))) = omega arith
-plays-of w (suc (suc (suc (suc (suc (suc (suc zero))))))) = omega arith
-plays-of w (suc (suc (suc (suc (suc (suc (suc (suc zero)))))))) = omega arith
-plays-of w (suc (suc (suc (suc (suc (suc (suc (suc (suc zero))))))))) = omega arith
-plays-of w (suc (suc (suc (suc (suc (suc (suc (suc (suc (suc zero)))))))))) = picks Low (modulates (getD (valuesIn 10 w) 0 0)) (λ t. omega arith) (λ t. omega arith)
-plays-of w (suc (suc (suc (suc (suc (suc (suc (suc (suc (suc (suc zero))))))))))) = omega arith
-plays-of w (suc (suc (suc (suc (suc (suc (suc (suc (suc (suc (suc (suc zero)))))))))))) = omega arith
-plays-of w (suc (suc (suc (suc (suc (suc (suc (suc (suc (suc (suc (suc (suc n))))))))))))) = omega arith
+abbrev LowIn : Body → Type 0
+LowIn b = (countIn b < 2 ^ 32) × Low (playsFor b)
+
+nothing : (0 < 2 ^ 32) × Low 0
+nothing = (omega arith, omega arith)
+
+low-of : (w n : ℕ) → LowIn (bodyOf n (valuesIn n w))
+low-of w zero = (omega arith, picks Low (plays (getD (valuesIn 0 w) 0 0)) (λ t. omega arith) (λ t. omega arith))
+low-of w (suc zero) = (omega arith, picks Low (plays (getD (valuesIn 1 w) 0 0)) (λ t. omega arith) (λ t. omega arith))
+low-of w (suc (suc zero)) = nothing
+low-of w (suc (suc (suc zero))) = nothing
+low-of w (suc (suc (suc (suc zero)))) = nothing
+low-of w (suc (suc (suc (suc (suc zero))))) = nothing
+low-of w (suc (suc (suc (suc (suc (suc zero)))))) = nothing
+low-of w (suc (suc (suc (suc (suc (suc (suc zero))))))) = nothing
+low-of w (suc (suc (suc (suc (suc (suc (suc (suc zero)))))))) = nothing
+low-of w (suc (suc (suc (suc (suc (suc (suc (suc (suc zero))))))))) = nothing
+low-of w (suc (suc (suc (suc (suc (suc (suc (suc (suc (suc zero)))))))))) = (omega arith, picks Low (modulates (getD (valuesIn 10 w) 0 0)) (λ t. omega arith) (λ t. omega arith))
+low-of w (suc (suc (suc (suc (suc (suc (suc (suc (suc (suc (suc zero))))))))))) = nothing
+low-of w (suc (suc (suc (suc (suc (suc (suc (suc (suc (suc (suc (suc zero)))))))))))) = nothing
+low-of w (suc (suc (suc (suc (suc (suc (suc (suc (suc (suc (suc (suc (suc n))))))))))))) = nothing
+
+spelled-low : (w : ℕ) → LowIn (spelledBy w .body)
+unfolding spelledBy
+spelled-low w = low-of w (codeIn w)
+
+pub spelled-count : (w : ℕ) → countIn (spelledBy w .body) < 2 ^ 32
+spelled-count w = spelled-low w .0
 
 pub plays-small : (w : ℕ) → playsFor (spelledBy w .body) ≤ 2 ^ 32
-unfolding spelledBy
-plays-small w = plays-of w (codeIn w)
+plays-small w = spelled-low w .1
 
 pub share-small : (w : ℕ) → Small (shareIn (spelledBy w))
 share-small w = record { engine = engine-small (spelledBy w) (spelled-engine w); waits = waits-small (spelledBy w .body); plays = plays-small w }

@@ -7,9 +7,15 @@ use lib.Dec.{eqb}
 use Rattle.instruction.specs.Bits.{pick}
 use Rattle.instruction.specs.Table.{codeOf}
 use Rattle.instruction.specs.declared.Instruction.{Instruction}
+use Rattle.instruction.specs.declared.Body.{Body}
 use Rattle.instruction.specs.declared.Body.the-variants.{Wait}
+use Rattle.sequence.specs.Placing.{onEngine}
 use Rattle.dispatch.specs.Engines.{engineCount, engineOf, waitsFor, playsFor, addTo, plusOne}
 use Rattle.dispatch.specs.declared.Share.{Share}
+
+-- the count in an engine word, whatever its op makes of it
+abbrev pub countIn : Body → ℕ
+countIn = onEngine (λ f. f .count .0) (λ f. f .count .0) (λ f. f .payload) 0
 
 -- what an engine word adds to its engine's counts, and what any instruction adds
 abbrev pub shareOf : ℕ → Bool → Bool → ℕ → Share

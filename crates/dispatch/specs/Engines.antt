@@ -26,8 +26,9 @@ abbrev pub waitsFor : Body → ℕ
 waitsFor = onEngine (λ f. pick (awaitsTrigger (f .op)) 1 0) (λ f. pick (awaitsTrigger (f .op)) 1 0) (λ f. pick (modulatorAwaitsTrigger (f .op)) 1 0) 0
 
 -- H7: "play and modulate add count to their engine's quad-sample total on dispatch"; "Others add nothing"
+-- document 02, request 6: "A marker play adds count + 1."
 abbrev pub playsFor : Body → ℕ
-playsFor = onEngine (λ f. pick (plays (f .op)) (f .count .0) 0) (λ f. pick (plays (f .op)) (f .count .0) 0) (λ f. pick (modulates (f .op)) (f .payload) 0) 0
+playsFor = onEngine (λ f. pick (plays (f .op)) (f .count .0) 0) (λ f. pick (plays (f .op)) (f .count .0 + 1) 0) (λ f. pick (modulates (f .op)) (f .payload) 0) 0
 
 -- one of six numbers more by v
 abbrev pub addTo : List ℕ → ℕ → ℕ → List ℕ

@@ -7,15 +7,18 @@ ghost use Prim.Native.Nat.{_+_, _^_, _≤_, _<_};
 ghost use lib.ListN.{length, drop};
 ghost use Rattle.instruction.specs.Bits.{pick, span};
 ghost use Rattle.instruction.specs.Table.{engineSelect};
+ghost use Rattle.instruction.specs.Form.{plays, awaitsTrigger};
 ghost use Rattle.instruction.specs.Word.{spelledBy};
 ghost use Rattle.dispatch.specs.Engines.{plusOne, Six, Counted};
-ghost use Rattle.dispatch.specs.Counting.{shareOf, shareIn, Small, CountedOne};
+ghost use Rattle.dispatch.specs.Counting.{countIn, shareOf, shareIn, Small, CountedOne};
 ghost use Rattle.dispatch.specs.Trace.{part, Dispatched, CountedAll, CanCount, CanDispatch};
 use instruction::Body;
 use instruction::EngineOp;
 use instruction::Instruction;
+use instruction::MarkerFields;
 use instruction::ModulatorFields;
 use instruction::QuadSamples;
+use instruction::Samples;
 
 // The engines that count: waveform, markers 0 to 3, modulator.
 pub struct Engines;
@@ -28,6 +31,11 @@ impl Engines {
     pub const FIRST_MARKER: u64 = 1;
 
     pub const MODULATOR: u64 = 5;
+
+    // After the count of a play a marker puts out its transition word, one bit a sample.
+    pub const TRANSITION: QuadSamples = QuadSamples(
+        MarkerFields::TRANSITION.width / Samples::PER_QUAD,
+    );
 }
 
 // What one word adds to the counts: to which engine, how many trigger waits, how many quad-samples; or, as WAIT does, one wait to all.
@@ -56,6 +64,19 @@ impl Share {
         }
     }
 
+    // WAVEFORM and MARKER: a play lasts its count, and what its engine puts out after it.
+    fn of_op(engine: u64, op: u64, count: QuadSamples, after: QuadSamples) -> Share
+        requires { ⌜ count .0 + after .0 ≤ 2 ^ 32 ⌝ }
+        ensures { λ r. ⌜ r ≡ shareOf engine (awaitsTrigger op) (plays op) (count .0 + after .0) ⌝ }
+    {
+        Share::of_engine(
+            engine,
+            op == EngineOp::WAIT_TRIGGER,
+            op == EngineOp::PLAY,
+            QuadSamples(count.0 + after.0),
+        )
+    }
+
     fn none() -> Share
         ensures { λ r. ⌜ r ≡ record { engine = 0; waits = 0; plays = record { 0 = 0 }; all = false } ⌝ }
     {
@@ -79,24 +100,14 @@ impl Share {
     }
 
     fn of(i: Instruction) -> Share
-        requires { ⌜ i .engine < span engineSelect ⌝ }
+        requires { ⌜ (i .engine < span engineSelect) × (countIn (i .body) < 2 ^ 32) ⌝ }
         ensures { λ r. ⌜ r ≡ shareIn i ⌝ }
     {
         let body = i.body;
         let marker = Engines::FIRST_MARKER + i.engine;
         match body {
-            Body::Waveform(f) => Share::of_engine(
-                Engines::WAVEFORM,
-                f.op == EngineOp::WAIT_TRIGGER,
-                f.op == EngineOp::PLAY,
-                f.count,
-            ),
-            Body::Marker(f) => Share::of_engine(
-                marker,
-                f.op == EngineOp::WAIT_TRIGGER,
-                f.op == EngineOp::PLAY,
-                f.count,
-            ),
+            Body::Waveform(f) => Share::of_op(Engines::WAVEFORM, f.op, f.count, QuadSamples(0)),
+            Body::Marker(f) => Share::of_op(marker, f.op, f.count, Engines::TRANSITION),
             Body::Wait => Share::for_all(),
             Body::LoadRepeat(_) => Share::none(),
             Body::Repeat(_) => Share::none(),

@@ -1,5 +1,11 @@
 -- Each arm is the share of its name.
+use Prim.Native.Nat.{_^_, _<_}
+use mathlib.Core.Path.{subst}
+use native.Mathlib.Numerals.{unary-clauses}
+use native.Mathlib.Omega.{arith}
 use borrow.Author.Needs.{needs}
+use Rattle.instruction.specs.declared.Body.{Body}
+use Rattle.dispatch.specs.Counting.{countIn}
 use Rattle.dispatch.proofs.Share.of.Statement.{statement}
 use Rattle.dispatch.proofs.Share.of.Tie as tie
 
@@ -9,14 +15,14 @@ add-marker c = search needs
 enum-known-body : tie.Need-enum-known-body
 enum-known-body c = search needs
 
-of-engine-requires : tie.Need-of-engine-requires
-of-engine-requires c κs = search needs
+of-op-requires : tie.Need-of-op-requires
+of-op-requires c κs = omega (arith, subst (λ (b : Body). countIn b < 2 ^ 32) (c .before .body .given .1) (c .before .before .before .before .pre .1))
 
 enum-known-body-2 : tie.Need-enum-known-body-2
 enum-known-body-2 c = search needs
 
-of-engine-requires-2 : tie.Need-of-engine-requires-2
-of-engine-requires-2 c κs = search needs
+of-op-requires-2 : tie.Need-of-op-requires-2
+of-op-requires-2 c κs = omega (arith, subst (λ (b : Body). countIn b < 2 ^ 32) (c .before .body2 .given .1) (c .before .before .before .before .pre .1))
 
 enum-told : tie.Need-enum-told
 enum-told c = search needs
@@ -69,8 +75,8 @@ none-requires-7 c κs = search needs
 enum-known-body-3 : tie.Need-enum-known-body-3
 enum-known-body-3 c = search needs
 
-of-engine-requires-3 : tie.Need-of-engine-requires-3
-of-engine-requires-3 c κs = search needs
+of-engine-requires : tie.Need-of-engine-requires
+of-engine-requires c κs = search needs
 
 enum-told-9 : tie.Need-enum-told-9
 enum-told-9 c = search needs
@@ -91,10 +97,10 @@ none-requires-10 : tie.Need-none-requires-10
 none-requires-10 c κs = search needs
 
 returns : tie.Need-returns
-returns c = rw (c .before .before .before .before .body .given .1) (c .of-engine .ensures)
+returns c = rw (c .before .before .body .given .1) (simp unary-clauses at (c .of-op .ensures))
 
 returns-2 : tie.Need-returns-2
-returns-2 c = rw (c .before .before .before .before .body2 .given .1) (c .of-engine2 .ensures)
+returns-2 c = rw (c .before .before .body2 .given .1) (c .of-op2 .ensures)
 
 returns-3 : tie.Need-returns-3
 returns-3 c = rw (c .before .enum-told .given .1) (c .for-all .ensures)
@@ -121,7 +127,7 @@ returns-10 : tie.Need-returns-10
 returns-10 c = rw (c .before .enum-told8 .given .1) (c .none7 .ensures)
 
 returns-11 : tie.Need-returns-11
-returns-11 c = rw (c .before .before .before .before .body3 .given .1) (c .of-engine3 .ensures)
+returns-11 c = rw (c .before .before .before .before .body3 .given .1) (c .of-engine .ensures)
 
 returns-12 : tie.Need-returns-12
 returns-12 c = rw (c .before .enum-told9 .given .1) (c .none8 .ensures)
@@ -138,9 +144,9 @@ of-spec =
     (tie.spec
     add-marker
     enum-known-body
-    of-engine-requires
+    of-op-requires
     enum-known-body-2
-    of-engine-requires-2
+    of-op-requires-2
     enum-told
     for-all-requires
     enum-told-2
@@ -158,7 +164,7 @@ of-spec =
     enum-told-8
     none-requires-7
     enum-known-body-3
-    of-engine-requires-3
+    of-engine-requires
     enum-told-9
     none-requires-8
     enum-told-10
