@@ -69,11 +69,12 @@ impl Share {
         requires { ⌜ count .0 + after .0 ≤ 2 ^ 32 ⌝ }
         ensures { λ r. ⌜ r ≡ shareOf engine (awaitsTrigger op) (plays op) (count .0 + after .0) ⌝ }
     {
+        let lasts = count.0 + after.0;
         Share::of_engine(
             engine,
             op == EngineOp::WAIT_TRIGGER,
             op == EngineOp::PLAY,
-            QuadSamples(count.0 + after.0),
+            QuadSamples(lasts),
         )
     }
 
