@@ -1,7 +1,8 @@
 /* The C interface of Oatneedle: what the archive libaps2_c.a holds.
    No function keeps anything, allocates, or reads past what it is lent; every input gets an answer.
    The buffers of one call must not overlap, and no pointer may be null, also where its length is 0 (any other will do then). A call needs
-   room on the stack: aps2_check 321 KiB, aps2_listing 169 KiB, aps2_block 5 KiB, the others 1 KiB. */
+   room on the stack: aps2_to_addresses 3,074 KiB, aps2_check 321 KiB, aps2_listing 169 KiB, aps2_to_labels 66 KiB, aps2_block 5 KiB,
+   the others 1 KiB. */
 #ifndef APS2_H
 #define APS2_H
 
@@ -65,6 +66,20 @@ uint64_t aps2_read_listing(const uint8_t *text, size_t len, uint64_t firmware, u
    room), and leaves `words` as it was; what is past the sequence is always left. told: 0 the line, from 1, that of a `repeat` without `end`
    being the one after the last, and 0 beside 0, 3, 54 and 55; 1 how many words, and 0 after a refusal. */
 uint64_t aps2_block(const uint8_t *text, size_t len, uint64_t wave, uint64_t *words, size_t words_len, uint64_t told[2]);
+
+/* Moves a listing of edition 1, whose jumps (REPEAT, GOTO and CALL) name an address, to edition 2, where they name a label. A line of edition
+   2 has no address; a line `label` and a name stands before the line of the word that is meant. Each target is named `L` and its address;
+   PREFETCH keeps its number. Returns 0 and starts `out` with the listing, or returns the number of the first bad line, 60 to 63 or 21, for a
+   target that is not below the number of lines behind the header, or last of all 64 (no room), and leaves `out` as it was; what is past the
+   listing is always left. What the fields ask for is not judged. told: 0 the line, from 1, and 0 beside 0 and 64; 1 how many bytes, and 0
+   after a refusal. */
+uint64_t aps2_to_labels(const uint8_t *text, size_t len, uint8_t *out, size_t out_len, uint64_t told[2]);
+
+/* Moves a listing of edition 2 to edition 1. Its labels have 1 to 16 letters or digits (ASCII; case matters), and may be defined before the
+   jump or behind it, several for one word, or for no jump at all. The answer is as above, with these numbers of a line: 60, 61 (also a label
+   line or a jump that is not well-shaped), 63, 65 (the label was defined before), 66 (no word follows the label) or 67 (no line of the text
+   defines the label). What aps2_to_labels wrote comes back as it was. */
+uint64_t aps2_to_addresses(const uint8_t *text, size_t len, uint8_t *out, size_t out_len, uint64_t told[2]);
 
 #ifdef __cplusplus
 }

@@ -1,47 +1,27 @@
 /* The listing: document 01, "The listing program", and document 02, requests 2 and 3. It is laid out on a page that has room for the longest
-   one, and copied where it fits. Each function writes from a place on and gives back the place behind what it wrote. */
+   one, and copied where it fits. */
 #include "names.h"
+#include "put.h"
 
 enum { WORDS = 2048, LINE = 64, PAGE = LINE * (WORDS + 1) };
-
-static inline uint8_t *text(uint8_t *to, const char *s)
-{
-    while (*s)
-        *to++ = (uint8_t)*s++;
-    return to;
-}
-
-static inline uint8_t *number(uint8_t *to, uint64_t v)
-{
-    uint8_t digits[20];
-    int k = 20;
-    while (v >= 10) {
-        digits[--k] = (uint8_t)('0' + v % 10);
-        v /= 10;
-    }
-    *to++ = (uint8_t)('0' + v);
-    while (k < 20)
-        *to++ = digits[k++];
-    return to;
-}
 
 static inline uint8_t *tabbed(uint8_t *to, uint64_t v)
 {
     *to++ = '\t';
-    return number(to, v);
+    return put_decimal(to, v);
 }
 
 static uint8_t *line(uint8_t *to, uint64_t address, uint64_t word, uint64_t firmware)
 {
     uint64_t f[8], bit[1], refused = second_read(word, firmware, f, bit);
-    to = number(to, address);
+    to = put_decimal(to, address);
     *to++ = '\t';
     if (refused >= 111) {
-        to = tabbed(tabbed(tabbed(text(to, "BAD"), UNNAMED), refused), bit[0]);
+        to = tabbed(tabbed(tabbed(put_letters(to, "BAD"), UNNAMED), refused), bit[0]);
     } else if (refused) {
-        to = tabbed(text(to, "BAD"), refused);
+        to = tabbed(put_letters(to, "BAD"), refused);
     } else {
-        to = text(to, names[f[0]]);
+        to = put_letters(to, names[f[0]]);
         if (f[0] != NOOP)
             to = tabbed(tabbed(to, f[1]), f[2]);
         for (int i = 0; i < shown[f[0]]; i++)
@@ -53,7 +33,7 @@ static uint8_t *line(uint8_t *to, uint64_t address, uint64_t word, uint64_t firm
 
 static uint8_t *pair(uint8_t *to, const char *name, uint64_t v)
 {
-    to = tabbed(text(to, name), v);
+    to = tabbed(put_letters(to, name), v);
     *to++ = '\n';
     return to;
 }

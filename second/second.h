@@ -1,5 +1,5 @@
 /* The second program: documents 01 and 02 once more, in C, written from the documents and never from the proved code. All but places.c,
-   read_listing.c, block.c and unrolled.c was reworked afterwards for the benchmark (docs/DECISIONS.md).
+   read_listing.c, block.c, unrolled.c and labels.c was reworked afterwards for the benchmark (docs/DECISIONS.md).
    It is what the proved code is compared with. Names and meanings are those of include/aps2.h. */
 #ifndef SECOND_H
 #define SECOND_H
@@ -27,5 +27,8 @@ uint64_t second_block(const uint8_t *text, size_t len, uint64_t wave, uint64_t *
    each 2^64 - 1 where it is more; 2 the steps and 3 the dispatched words, which start `trace`, of a run with this budget and room that goes no
    further than the park. */
 void second_unrolled(const uint8_t *text, size_t len, uint64_t budget, uint64_t *trace, size_t room, uint64_t told[4]);
+
+uint64_t second_to_labels(const uint8_t *text, size_t len, uint8_t *out, size_t out_len, uint64_t told[2]);
+uint64_t second_to_addresses(const uint8_t *text, size_t len, uint8_t *out, size_t out_len, uint64_t told[2]);
 
 #endif

@@ -5,6 +5,8 @@
 #include "held.h"
 
 #define LENT (WORDS + 64)
+#define UNIT uint64_t
+#define UNIT_NAME "word"
 #include "lent.h"
 
 /* The line that was told. */
@@ -15,14 +17,6 @@ static void show_case(size_t room)
     show_number("blocks");
     printf("  W %llu, %llu bytes, room %llu\n", (unsigned long long)wave, (unsigned long long)len, (unsigned long long)room);
     show_text();
-}
-
-static int untouched(const uint64_t *words, size_t from, size_t room)
-{
-    for (size_t i = from; i < room + BEHIND; i++)
-        if (words[i] != before[i])
-            return 0;
-    return 1;
 }
 
 /* Both programs make words of the text; the answers, the buffers and their tails are compared. */

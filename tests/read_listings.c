@@ -10,6 +10,8 @@
 #define MOST 3000 /* words */
 
 #define LENT (MOST + 64)
+#define UNIT uint64_t
+#define UNIT_NAME "word"
 #include "lent.h"
 
 static uint64_t words[MOST];
@@ -21,26 +23,6 @@ static void show_case(size_t room)
     show_text();
 }
 
-/* Words go whole or not at all, and what is behind them stays. */
-static int untouched(uint64_t number, uint64_t count, size_t room)
-{
-    for (size_t i = number ? 0 : count; i < room + BEHIND; i++)
-        if (ours[i] != before[i])
-            return 0;
-    return 1;
-}
-
-/* The first word that differs. */
-static void show_word(size_t room)
-{
-    for (size_t i = 0; i < room + BEHIND; i++)
-        if (ours[i] != theirs[i]) {
-            printf("  word %llu: %llx, second %llx, before %llx\n", (unsigned long long)i, (unsigned long long)ours[i],
-                   (unsigned long long)theirs[i], (unsigned long long)before[i]);
-            return;
-        }
-}
-
 /* Both programs read the text; the answers, the buffers and their tails are compared. */
 static uint64_t try_read(size_t room)
 {
@@ -49,9 +31,8 @@ static uint64_t try_read(size_t room)
     tempt();
     uint64_t number = aps2_read_listing(text, len, firmware, ours, room, told);
     uint64_t second = second_read_listing(text, len, firmware, theirs, room, second_told);
-    int good = number == second && told[0] == second_told[0] && told[1] == second_told[1] && untouched(number, told[1], room);
-    for (size_t i = 0; i < room + BEHIND; i++)
-        good &= ours[i] == theirs[i];
+    int good = number == second && told[0] == second_told[0] && told[1] == second_told[1] && (!number || !told[1]);
+    good = good && untouched(ours, told[1], room) && same_buffers(room);
     compared++;
     meet(number);
     if (!good && !failed) {
@@ -59,7 +40,7 @@ static uint64_t try_read(size_t room)
         show_case(room);
         show_answer("ours", number, told);
         show_answer("second", second, second_told);
-        show_word(room);
+        show_difference(room);
     }
     return number;
 }
@@ -229,23 +210,10 @@ static void try_number(uint64_t k)
 }
 
 /* Every start of the header line, and headers that are almost right, each alone and with lines behind. */
-static const char *const headers[] = {
-    "\n", "aps2-listing\t2\n", "aps2-listing\t10\n", "aps2-listing\t01\n", "aps2-listing\t\n", "aps2-listing\n", "aps2-listing\t1\t\n",
-    "aps2-listing\t1\t1\n", "aps2-listing 1\n", "aps2-listing\t1\r\n", "aps2-listing\t1 \n", " aps2-listing\t1\n", "\taps2-listing\t1\n",
-    "\naps2-listing\t1\n", "APS2-LISTING\t1\n", "Aps2-listing\t1\n", "aps2_listing\t1\n", "aps2listing\t1\n", "aps-listing\t1\n", "aps2-listings\t1\n",
-    "aps2-listing\t\t1\n", "aps2-listing\t1\n\n", "aps2-listing\t1\naps2-listing\t1\n", "refused\t8\n", "refused\t9\n", "\357\273\277aps2-listing\t1\n",
-};
-#define HEADERS (sizeof headers / sizeof *headers)
-
 static void try_header(uint64_t k)
 {
-    uint64_t which = k % (HEADERS + HEADER + 1);
-    size_t n = k / (HEADERS + HEADER + 1) % 3;
-    len = which < HEADERS ? 0 : put_header(text);
-    if (which < HEADERS)
-        put_bytes(headers[which]);
-    else
-        len = which - HEADERS;
+    size_t n = k / ODD_HEADERS % 3;
+    put_odd_header(k % ODD_HEADERS, 1);
     for (size_t a = 0; a < n; a++)
         put_word(a, good_word());
     try_read(room_around(n));
@@ -375,7 +343,7 @@ static void try_back(uint64_t k)
     lend(room, told, unused);
     tempt();
     uint64_t number = aps2_read_listing(text, len, firmware, ours, room, told);
-    int good = number == 0 && told[0] == 0 && told[1] == n && untouched(0, n, room);
+    int good = number == 0 && told[0] == 0 && told[1] == n && untouched(ours, n, room);
     for (size_t i = 0; i < n; i++) {
         uint64_t code = words[i] >> 60;
         good &= ours[i] == (code == 8 || code == 11 ? words[i] >> 56 << 56 : words[i]);
@@ -399,7 +367,7 @@ static const struct cases families[] = {
     { "read listing: one damage", 8000, try_damage },
     { "read listing: several damages", 4000, try_more_damages },
     { "read listing: numbers around 2^64, and not plain, at every place", ROWS * NUMBERS * 7, try_number },
-    { "read listing: headers", (HEADERS + HEADER + 1) * 3 * 4, try_header },
+    { "read listing: headers", ODD_HEADERS * 3 * 4, try_header },
     { "read listing: names that are none", ROWS * SPELLINGS * 3 * 4, try_name },
     { "read listing: wrong in several ways at once", 512 * 16, try_order },
     { "read listing: every room, none to more than enough", 600, try_rooms },

@@ -77,6 +77,38 @@ static inline void put_row(uint64_t address, const struct row *row, const uint64
 
 static inline void put_word(uint64_t address, uint64_t word) { len += put_line(text + len, address, word, firmware); }
 
+/* The header line of an edition. */
+static inline void start_edition(uint8_t edition)
+{
+    len = put_header(text);
+    text[HEADER - 2] = (uint8_t)('0' + edition);
+}
+
+/* Headers that are almost right for edition 1; those of edition 2 have 2 for 1. */
+static const char *const headers[] = {
+    "\n", "aps2-listing\t2\n", "aps2-listing\t10\n", "aps2-listing\t01\n", "aps2-listing\t\n", "aps2-listing\n", "aps2-listing\t1\t\n",
+    "aps2-listing\t1\t1\n", "aps2-listing 1\n", "aps2-listing\t1\r\n", "aps2-listing\t1 \n", " aps2-listing\t1\n", "\taps2-listing\t1\n",
+    "\naps2-listing\t1\n", "APS2-LISTING\t1\n", "Aps2-listing\t1\n", "aps2_listing\t1\n", "aps2listing\t1\n", "aps-listing\t1\n", "aps2-listings\t1\n",
+    "aps2-listing\t\t1\n", "aps2-listing\t1\n\n", "aps2-listing\t1\naps2-listing\t1\n", "refused\t8\n", "refused\t9\n", "\357\273\277aps2-listing\t1\n",
+    "aps2-listing\t3\n", "aps2-listing\t0\n",
+};
+#define HEADERS (sizeof headers / sizeof *headers)
+
+/* As k counts up: these, and every start of the header line. */
+#define ODD_HEADERS (HEADERS + HEADER + 1)
+static inline void put_odd_header(uint64_t k, uint8_t edition)
+{
+    len = 0;
+    if (k < HEADERS) {
+        put_bytes(headers[k]);
+        for (size_t i = 1; i < len && edition == 2; i++)
+            text[i] = text[i] == '1' ? '2' : text[i] == '2' && text[i - 1] == '\t' ? '1' : text[i];
+    } else {
+        start_edition(edition);
+        len = k - HEADERS;
+    }
+}
+
 /* The header and n lines that are good. */
 static inline void start_text(size_t n)
 {

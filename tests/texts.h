@@ -5,7 +5,7 @@
 #include "firmware.h"
 #include "lines.h"
 
-#define TEXT (1 << 21)
+#define TEXT (1 << 22)
 #define SHORT 400 /* bytes of a text that is shown */
 #define BEHIND 8 /* bytes of text and words of buffer behind what is lent */
 

@@ -1,6 +1,6 @@
 /* Cases from a separate implementation, one to a line on standard input, compared with the proved code.
-   The first line names the kind: `read`, `write`, `check`, `run`, `listing`, `read_listing`, `block` or `block_long`. Lists are parted by
-   commas, `-` is the empty list, words are hexadecimal. Every case but a block has its firmware, which is passed on. */
+   The first line names the kind, as `kinds` has them. Lists are parted by commas, `-` is the empty list, words are hexadecimal. Every case but
+   a block or a move has its firmware, which is passed on. */
 #include "../include/aps2.h"
 #include "check.h"
 
@@ -276,13 +276,46 @@ static void block_long_cases(void)
     family_of("vectors: block_long", (const int[]){ 0, 3, 20, 50, 52, 54, 55, -1 });
 }
 
+#define BEHIND 64 /* bytes behind those that are lent */
+
+/* Moves between the editions. The lent bytes are all 7e before; behind what is written they stay so. */
+static void move_cases(uint64_t (*move)(const uint8_t *, size_t, uint8_t *, size_t, uint64_t[2]))
+{
+    while (more()) {
+        size_t len = hexadecimal(raw), room = number(10);
+        uint64_t expected = number(10), line = number(10), count = number(10), told[2] = { 99, 99 };
+        size_t written = hexadecimal(expected_text);
+        for (size_t i = 0; i < room + BEHIND; i++)
+            text[i] = 0x7e;
+        int good = move(raw, len, text, room, told) == expected && told[0] == line && told[1] == count && count == written && written <= room;
+        for (size_t i = 0; i < room + BEHIND; i++)
+            good &= text[i] == (i < written ? expected_text[i] : 0x7e);
+        compared++;
+        meet(expected);
+        if (!good)
+            disagree(compared);
+    }
+}
+
+static void to_labels_cases(void)
+{
+    move_cases(aps2_to_labels);
+    family_of("vectors: to_labels", (const int[]){ 0, 21, 60, 61, 62, 63, 64, -1 });
+}
+
+static void to_addresses_cases(void)
+{
+    move_cases(aps2_to_addresses);
+    family_of("vectors: to_addresses", (const int[]){ 0, 60, 61, 63, 64, 65, 66, 67, -1 });
+}
+
 static const struct {
     const char *name;
     void (*cases)(void);
 } kinds[] = {
     { "read", read_cases }, { "write", write_cases }, { "check", check_cases },
     { "run", run_cases }, { "listing", listing_cases }, { "read_listing", read_listing_cases },
-    { "block", block_cases }, { "block_long", block_long_cases },
+    { "block", block_cases }, { "block_long", block_long_cases }, { "to_labels", to_labels_cases }, { "to_addresses", to_addresses_cases },
 };
 
 static int same(const char *a, const char *b)

@@ -1,9 +1,10 @@
-// The answers: the listing; the verdict with the word that it is about; how a run ended, and all that it left; the words of a listing or block.
-// Each comes as text for a person or as an object for a script, and its exit status last.
+// The answers: the listing; the verdict with the word that it is about; how a run ended, and all that it left; the words of a listing or
+// block; a listing moved. Each comes as text for a person or as an object for a script, and its exit status last.
 use crate::space;
 use files::input::Found;
 use files::messages::messages_of;
-use files::trace::save;
+use files::out::save_text;
+use files::out::save_words;
 use instruction::QuadSamples;
 use instruction::Refusal;
 use instruction::Rules;
@@ -49,13 +50,13 @@ fn say_accepted(n: usize, wave: QuadSamples, rules: Rules) {
     say(b"\n");
 }
 
-fn say_refused(words: &[u64], verdict: Verdict, listed: bool, rules: Rules) {
+fn say_refused(words: &[u64], lines: &[u64], verdict: Verdict, rules: Rules) {
     say(b"refused: ");
     say_number(verdict.refusal.number);
-    say_place(words, verdict.refusal, verdict.place, listed, rules);
+    say_place(words, lines, verdict.refusal, verdict.place, rules);
 }
 
-pub fn check(words: &[u64], wave: QuadSamples, rules: Rules, listed: bool) {
+pub fn check(words: &[u64], lines: &[u64], wave: QuadSamples, rules: Rules) {
     let mut marks = space::for_words();
     let verdict = verdict::check(words, wave, rules, &mut marks);
     let number = verdict.refusal.number;
@@ -64,7 +65,7 @@ pub fn check(words: &[u64], wave: QuadSamples, rules: Rules, listed: bool) {
         told::ends(told::ACCEPTED, 0);
         return;
     }
-    say_refused(words, verdict, listed, rules);
+    say_refused(words, lines, verdict, rules);
     told::ends(told::REFUSED, number);
 }
 
@@ -93,20 +94,20 @@ fn status_of(end: Refusal) -> u64 {
     }
 }
 
-fn say_run(words: &[u64], trace: &[u64], answer: Answer, listed: bool, rules: Rules) {
+fn say_run(words: &[u64], lines: &[u64], trace: &[u64], answer: Answer, rules: Rules) {
     say_end(answer.end);
-    say_place(words, answer.end, answer.state.core.address, listed, rules);
+    say_place(words, lines, answer.end, answer.state.core.address, rules);
     let state = answer.state;
     say_state(state);
     say_trace(trace, rules);
 }
 
-fn say_run_by_name(words: &[u64], trace: &[u64], answer: Answer, asked: Asked, listed: bool) {
+fn say_run_by_name(words: &[u64], lines: &[u64], trace: &[u64], answer: Answer, asked: Asked) {
     file::begin(asked.file, status_of(answer.end));
     file::say_member(b"end", answer.end.number);
     file::say_member(b"bit", answer.end.bit);
-    if listed {
-        file::say_member(b"line", line_of(answer.state.core.address.0));
+    if lines.len() != 0 {
+        file::say_member(b"line", line_of(lines, answer.state.core.address.0));
     }
     file::say_member(b"words", words.len() as u64);
     file::say_member(b"wave", asked.wave.0);
@@ -119,22 +120,22 @@ fn say_run_by_name(words: &[u64], trace: &[u64], answer: Answer, asked: Asked, l
 }
 
 // What a run is told that has come to its end. The trace goes to its file first, so that there is no answer without it.
-fn tell(words: &[u64], trace: &[u64], answer: Answer, asked: Asked, listed: bool) {
+fn tell(words: &[u64], lines: &[u64], trace: &[u64], answer: Answer, asked: Asked) {
     let status = status_of(answer.end);
-    if asked.trace != 0 && !save(asked.trace, trace) {
+    if asked.trace != 0 && !save_words(asked.trace, trace) {
         told::ends(told::NO_ANSWER, 0);
         return;
     }
     if asked.json {
-        say_run_by_name(words, trace, answer, asked, listed);
+        say_run_by_name(words, lines, trace, answer, asked);
         told::ends(status, 0);
         return;
     }
-    say_run(words, trace, answer, listed, asked.rules);
+    say_run(words, lines, trace, answer, asked.rules);
     told::ends(status, answer.end.number);
 }
 
-fn rehearse(words: &[u64], messages: &[u8], trace: &mut [u64], asked: Asked, listed: bool) {
+fn rehearse(words: &[u64], lines: &[u64], messages: &[u8], trace: &mut [u64], asked: Asked) {
     let answer = rehearsal::run(
         words,
         asked.wave,
@@ -146,19 +147,25 @@ fn rehearse(words: &[u64], messages: &[u8], trace: &mut [u64], asked: Asked, lis
     );
     let sent = answer.state.core.sent as usize;
     if sent <= trace.len() {
-        tell(words, &trace[..sent], answer, asked, listed);
+        tell(words, lines, &trace[..sent], answer, asked);
     }
 }
 
 // With as much room as is asked for.
-fn rehearse_in_room(words: &[u64], messages: &[u8], trace: &mut [u64], asked: Asked, listed: bool) {
+fn rehearse_in_room(
+    words: &[u64],
+    lines: &[u64],
+    messages: &[u8],
+    trace: &mut [u64],
+    asked: Asked,
+) {
     let room = asked.room as usize;
     if room <= trace.len() {
-        rehearse(words, messages, &mut trace[..room], asked, listed);
+        rehearse(words, lines, messages, &mut trace[..room], asked);
     }
 }
 
-pub fn run(words: &[u64], asked: Asked, listed: bool) {
+pub fn run(words: &[u64], lines: &[u64], asked: Asked) {
     let mut messages = io::large_buffer();
     let mut numbers = space::for_words();
     let heard = messages_of(asked.messages, &mut numbers, &mut messages);
@@ -169,7 +176,7 @@ pub fn run(words: &[u64], asked: Asked, listed: bool) {
     }
     if n <= messages.len() {
         let mut trace = space::for_trace();
-        rehearse_in_room(words, &messages[..n], &mut trace, asked, listed);
+        rehearse_in_room(words, lines, &messages[..n], &mut trace, asked);
     }
 }
 
@@ -180,12 +187,28 @@ pub fn words(words: &[u64], asked: Asked) {
         told::ends(told::ACCEPTED, 0);
         return;
     }
-    if !save(asked.out, words) {
+    if !save_words(asked.out, words) {
         told::ends(told::NO_ANSWER, 0);
         return;
     }
     say_number(words.len() as u64);
     say(b" words\n");
+    told::ends(told::ACCEPTED, 0);
+}
+
+// A listing that was moved: as it is, or into a file.
+pub fn text(text: &[u8], asked: Asked) {
+    if asked.out == 0 {
+        say(text);
+        told::ends(told::ACCEPTED, 0);
+        return;
+    }
+    if !save_text(asked.out, text) {
+        told::ends(told::NO_ANSWER, 0);
+        return;
+    }
+    say_number(text.len() as u64);
+    say(b" bytes\n");
     told::ends(told::ACCEPTED, 0);
 }
 
@@ -208,7 +231,13 @@ pub fn say_bad_text_by_name(found: Found, argument: usize) {
     file::end();
 }
 
-// And what stands in that line.
+fn say_shown(line: &[u8], shown: usize) {
+    if shown <= line.len() {
+        say_typed(&line[..shown]);
+    }
+}
+
+// And what stands in that line, laid at the start of what is lent.
 pub fn refused_text(found: Found, line: &[u8], asked: Asked) {
     if asked.json {
         say_bad_text_by_name(found, asked.file);
@@ -217,7 +246,7 @@ pub fn refused_text(found: Found, line: &[u8], asked: Asked) {
     }
     say_bad_text(found);
     if found.line != 0 {
-        say_typed(line);
+        say_shown(line, found.shown);
     }
     told::ends(told::REFUSED, found.number);
 }

@@ -1,25 +1,37 @@
-// aps2: lists, checks and rehearses the words of a file, reads listings back and translates blocks, for the script of the same name.
+// aps2: lists, checks and rehearses the words of a file, reads listings back, moves them and translates blocks, for the script of the same name.
 // What is worth a proof stands in the libraries; here what is asked for is answered.
 mod answer;
+mod moving;
 mod several;
 mod space;
 
 use files::input::Found;
 use files::input::words_of;
+use files::moves::Way;
 use files::texts::Written;
-use files::texts::text_of;
+use files::texts::words_in_text;
 use request::asked;
 use request::asked::Asked;
 use sequence::Sequence;
 
-fn give(words: &[u64], asked: Asked, listed: bool) {
+fn give(words: &[u64], lines: &[u64], asked: Asked) {
     let command = asked.command;
     match command {
         asked::LIST => answer::list(words, asked),
-        asked::CHECK => answer::check(words, asked.wave, asked.rules, listed),
+        asked::CHECK => answer::check(words, lines, asked.wave, asked.rules),
         asked::WORDS => answer::words(words, asked),
         asked::BLOCK => answer::words(words, asked),
-        _ => answer::run(words, asked, listed),
+        _ => answer::run(words, lines, asked),
+    }
+}
+
+// The list with labels is a listing moved.
+fn give_either(words: &[u64], lines: &[u64], asked: Asked) {
+    let rules = asked.rules;
+    if asked.labelled {
+        moving::serve(Way::Listed(rules), words, asked);
+    } else {
+        give(words, lines, asked);
     }
 }
 
@@ -32,35 +44,37 @@ fn without_words(asked: Asked) {
 }
 
 // What `words` reads is a listing, and what `block` reads a block, whatever its name.
-fn find(asked: Asked, words: &mut [u64], line: &mut [u8]) -> Found {
+fn find(asked: Asked, words: &mut [u64], lines: &mut [u64], line: &mut [u8]) -> Found {
     let rules = asked.rules;
     let wave = asked.wave;
     if asked.command == asked::WORDS {
-        return text_of(asked.file, Written::Listing(rules), words, line);
+        return words_in_text(asked.file, Written::Listing(rules), words, lines, line);
     }
     if asked.command == asked::BLOCK {
-        return text_of(asked.file, Written::Block(wave), words, line);
+        return words_in_text(asked.file, Written::Block(wave), words, lines, line);
     }
-    words_of(asked.file, asked.hex, asked.rules, asked.wave, words, line)
+    words_of(asked.file, asked.hex, rules, wave, words, lines, line)
 }
 
 fn serve(asked: Asked) {
     let mut words = space::for_words();
+    let mut lines = space::for_lines();
     let mut line = io::buffer();
-    let found = find(asked, &mut words, &mut line);
+    let found = find(asked, &mut words, &mut lines, &mut line);
     let n = found.count;
+    let k = found.lines;
     if !found.good {
         without_words(asked);
         return;
     }
     if found.number != 0 {
-        if found.shown <= line.len() {
-            answer::refused_text(found, &line[..found.shown], asked);
-        }
+        answer::refused_text(found, &line, asked);
         return;
     }
     if n <= Sequence::WORDS as usize {
-        give(&words[..n], asked, found.listed);
+        if k <= lines.len() {
+            give_either(&words[..n], &lines[..k], asked);
+        }
     }
 }
 
@@ -74,5 +88,10 @@ fn main() {
         several::check(asked);
         return;
     }
-    serve(asked);
+    let command = asked.command;
+    match command {
+        asked::LABELS => moving::serve_file(Way::ToLabels, asked),
+        asked::ADDRESSES => moving::serve_file(Way::ToAddresses, asked),
+        _ => serve(asked),
+    }
 }

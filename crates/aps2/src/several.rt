@@ -75,10 +75,10 @@ fn say_no_answer(asked: Asked, argument: usize) {
     say(b": no answer\n");
 }
 
-fn say_line(verdict: Verdict, listed: bool) {
-    if listed {
+fn say_line(verdict: Verdict, lines: &[u64]) {
+    if lines.len() != 0 {
         say(b", line ");
-        say_number(line_of(verdict.place.0));
+        say_number(line_of(lines, verdict.place.0));
     }
 }
 
@@ -93,7 +93,7 @@ fn say_refused_text(found: Found, asked: Asked, argument: usize) {
     say_bad_text(found);
 }
 
-fn say_verdict(n: u64, verdict: Verdict, listed: bool) {
+fn say_verdict(n: u64, lines: &[u64], verdict: Verdict) {
     if verdict.refusal.number == 0 {
         say(b": accepted: ");
         say_number(n);
@@ -106,25 +106,25 @@ fn say_verdict(n: u64, verdict: Verdict, listed: bool) {
         say(b" at word ");
         say_number(verdict.place.0);
         say_bit(verdict.refusal);
-        say_line(verdict, listed);
+        say_line(verdict, lines);
     }
     say(b"\n");
 }
 
 // The line of the word, 0 beside 0.
-fn line_in(verdict: Verdict) -> u64 {
+fn line_in(verdict: Verdict, lines: &[u64]) -> u64 {
     if verdict.refusal.number == 0 {
         return 0;
     }
-    line_of(verdict.place.0)
+    line_of(lines, verdict.place.0)
 }
 
-fn say_verdict_by_name(n: u64, asked: Asked, verdict: Verdict, listed: bool) {
+fn say_verdict_by_name(n: u64, lines: &[u64], asked: Asked, verdict: Verdict) {
     file::say_member(b"number", verdict.refusal.number);
     file::say_member(b"place", verdict.place.0);
     file::say_member(b"bit", verdict.refusal.bit);
-    if listed {
-        file::say_member(b"line", line_in(verdict));
+    if lines.len() != 0 {
+        file::say_member(b"line", line_in(verdict, lines));
     }
     file::say_member(b"words", n);
     file::say_member(b"wave", asked.wave.0);
@@ -140,24 +140,25 @@ fn status_of(number: u64) -> u64 {
     }
 }
 
-fn judge(words: &[u64], asked: Asked, argument: usize, listed: bool) -> u64 {
+fn judge(words: &[u64], lines: &[u64], asked: Asked, argument: usize) -> u64 {
     let mut marks = space::for_words();
     let verdict = verdict::check(words, asked.wave, asked.rules, &mut marks);
     let status = status_of(verdict.refusal.number);
     let n = words.len() as u64;
     if asked.json {
         file::begin(argument, status);
-        say_verdict_by_name(n, asked, verdict, listed);
+        say_verdict_by_name(n, lines, asked, verdict);
         return status;
     }
     say_name(argument);
-    say_verdict(n, verdict, listed);
+    say_verdict(n, lines, verdict);
     status
 }
 
 // One file, and its exit status if it were alone.
 fn check_file(asked: Asked, argument: usize) -> u64 {
     let mut words = space::for_words();
+    let mut lines = space::for_lines();
     let mut line = io::buffer();
     let found = words_of(
         argument,
@@ -165,9 +166,11 @@ fn check_file(asked: Asked, argument: usize) -> u64 {
         asked.rules,
         asked.wave,
         &mut words,
+        &mut lines,
         &mut line,
     );
     let n = found.count;
+    let k = found.lines;
     if !found.good {
         say_no_answer(asked, argument);
         return told::NO_ANSWER;
@@ -177,7 +180,9 @@ fn check_file(asked: Asked, argument: usize) -> u64 {
         return told::REFUSED;
     }
     if n <= Sequence::WORDS as usize {
-        return judge(&words[..n], asked, argument, found.listed);
+        if k <= lines.len() {
+            return judge(&words[..n], &lines[..k], asked, argument);
+        }
     }
     told::NO_ANSWER
 }

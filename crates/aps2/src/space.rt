@@ -2,6 +2,7 @@
 ghost use mathlib.Core.Path.{_≡_};
 ghost use lib.ListN.{length};
 ghost use Rattle.sequence.specs.Bounds.{wordLimit};
+ghost use Prim.Native.Nat.{_+_};
 ghost use Rattle.request.specs.Room.{mostRoom};
 use request::asked::Asked;
 use sequence::Sequence;
@@ -11,6 +12,13 @@ pub fn for_words() -> [u64; Sequence::WORDS as usize]
     ensures { λ r. ⌜ wordLimit ≡ length r ⌝ }
 {
     [0; Sequence::WORDS as usize]
+}
+
+// For the lines that a listing has the words of a sequence in, of one word too many, and the one behind the last.
+pub fn for_lines() -> [u64; Sequence::WORDS as usize + 2]
+    ensures { λ r. ⌜ wordLimit + 2 ≡ length r ⌝ }
+{
+    [0; Sequence::WORDS as usize + 2]
 }
 
 // For a trace.

@@ -15,7 +15,10 @@ use Rattle.listing_reader.specs.declared.ReadBack.{ReadBack}
 use Rattle.listing_reader.proofs.Unique.{one-answer-read-listing}
 use Rattle.block.specs.declared.Translation.{Translation}
 use Rattle.block.proofs.Unique.{one-answer-block}
-use Rattle.aps2_c.specs.Answer.{Ran, Checked, ListingRead, BlockWritten}
+use Rattle.editions.specs.Moves.{linesJudged, labelled, labelsJudged, addressed}
+use Rattle.editions.specs.declared.Moved.{Moved}
+use Rattle.editions.proofs.Unique.{one-move}
+use Rattle.aps2_c.specs.Answer.{Ran, Checked, ListingRead, BlockWritten, TextMoved}
 
 pub one-answer-aps2-read : (reading : Reading) {r r′ : ℕ} {fields fields′ bit bit′ : List ℕ} → Read reading r fields bit → Read reading r′ fields′ bit′
     → (r ≡ r′) × (fields ≡ fields′) × (bit ≡ bit′)
@@ -57,3 +60,21 @@ one-answer-aps2-block wave text before p q =
       p .told ∙ ap (λ (t : Translation). t .line ∷ t .count ∷ []) (o .0) ∙ sym (q .told),
       o .1,
     )
+
+-- a move, from either edition to the other
+one-text : (judged : Moved) (text before : List ℕ) {r r′ : ℕ} {after after′ told told′ : List ℕ} → TextMoved judged text before after told r → TextMoved judged text before after′ told′ r′
+    → (r ≡ r′) × (told ≡ told′) × (after ≡ after′)
+one-text judged text before p q =
+    let o = one-move judged text before (p .moves) (q .moves) in (
+      ap (λ (m : Moved). m .number) (o .0),
+      p .told ∙ ap (λ (m : Moved). m .line ∷ m .size ∷ []) (o .0) ∙ sym (q .told),
+      o .1,
+    )
+
+pub one-answer-aps2-to-labels : (text before : List ℕ) {r r′ : ℕ} {after after′ told told′ : List ℕ}
+    → TextMoved (linesJudged text) (labelled text) before after told r → TextMoved (linesJudged text) (labelled text) before after′ told′ r′ → (r ≡ r′) × (told ≡ told′) × (after ≡ after′)
+one-answer-aps2-to-labels text before p q = one-text (linesJudged text) (labelled text) before p q
+
+pub one-answer-aps2-to-addresses : (text before : List ℕ) {r r′ : ℕ} {after after′ told told′ : List ℕ}
+    → TextMoved (labelsJudged text) (addressed text) before after told r → TextMoved (labelsJudged text) (addressed text) before after′ told′ r′ → (r ≡ r′) × (told ≡ told′) × (after ≡ after′)
+one-answer-aps2-to-addresses text before p q = one-text (labelsJudged text) (addressed text) before p q

@@ -1,4 +1,4 @@
--- What C gets of a run, in 55 numbers, of a check, and of a listing that is read back. 0 end, 1 address, 2 steps, 3 messages used, 4 trace length, 5 to 10 wait counts,
+-- What C gets of a run, in 55 numbers, of a check, and of texts that are read or moved. 0 end, 1 address, 2 steps, 3 messages used, 4 trace length, 5 to 10 wait counts,
 -- 11 to 16 totals, 17 repeat counter, 18 register, 19 condition (0 none, 1 false, 2 true), 20 held, 21 depth, 22 to 37 stack addresses, 38 to 53 stack counters, 54 bit.
 use mathlib.Core.Path.{_≡_}
 use mathlib.Core.List.{List, [], _∷_}
@@ -16,6 +16,8 @@ use Rattle.verdict.specs.Check.{CheckIs}
 use Rattle.verdict.specs.Flow.{verdict}
 use Rattle.listing_reader.specs.ReadBack.{ReadsBack}
 use Rattle.block.specs.Text.{Translates}
+use Rattle.editions.specs.Moves.{Moves}
+use Rattle.editions.specs.declared.Moved.{Moved}
 
 abbrev pub conditionOf : Condition → ℕ
 conditionOf Absent = 0
@@ -67,3 +69,10 @@ pub record BlockWritten (wave : ℕ) (text before after given : List ℕ) (r : �
   pub count : ℕ
   pub told : given ≡ line ∷ count ∷ []
   pub translates : Translates wave text before after (record { number = r; line = line; count = count })
+
+-- what `aps2_to_labels` and `aps2_to_addresses` answer, and what they leave in the buffer and tell: line, and how many bytes
+pub record TextMoved (judged : Moved) (text before after given : List ℕ) (r : ℕ) : Type 0 where
+  pub line : ℕ
+  pub size : ℕ
+  pub told : given ≡ line ∷ size ∷ []
+  pub moves : Moves judged text before after (record { number = r; line = line; size = size })

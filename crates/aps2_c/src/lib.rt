@@ -9,7 +9,8 @@ ghost use Rattle.jumps.specs.State.{fixedIn};
 ghost use Rattle.rehearsal.specs.Run.{rehearse};
 ghost use Rattle.listing.specs.Listing.{listingOf, Listed};
 ghost use Rattle.aps2_c.specs.Firmware.{rulesOf};
-ghost use Rattle.aps2_c.specs.Answer.{conditionOf, flatWith, Ran, Checked, ListingRead, BlockWritten};
+ghost use Rattle.editions.specs.Moves.{linesJudged, labelled, labelsJudged, addressed};
+ghost use Rattle.aps2_c.specs.Answer.{conditionOf, flatWith, Ran, Checked, ListingRead, BlockWritten, TextMoved};
 ghost use Rattle.aps2_c.specs.Fields.{numbersOf, fieldsOf, Read, isName, filledPast, valuesAsked, wishOf, Wrote};
 use block::block;
 use dispatch::Engines;
@@ -28,6 +29,8 @@ use reader::read;
 use rehearsal::Answer;
 use rehearsal::run;
 use sequence::Sequence;
+use to_addresses::to_addresses;
+use to_labels::to_labels;
 use verdict::Verdict;
 use verdict::check;
 use writer::Written;
@@ -313,4 +316,22 @@ pub extern "C" fn aps2_block(text: &[u8], wave: u64, words: &mut [u64], told: &m
     let translated = block(text, QuadSamples(wave), words);
     *told = [translated.line, translated.count];
     translated.number
+}
+
+#[no_mangle]
+pub extern "C" fn aps2_to_labels(text: &[u8], out: &mut [u8], told: &mut [u64; 2]) -> u64
+    ensures { λ r. ⌜ TextMoved (linesJudged (now (text .entry))) (labelled (now (text .entry))) (now (out .entry)) (now (out .exit)) (now (told .exit)) r ⌝ }
+{
+    let moved = to_labels(text, out);
+    *told = [moved.line, moved.size];
+    moved.number
+}
+
+#[no_mangle]
+pub extern "C" fn aps2_to_addresses(text: &[u8], out: &mut [u8], told: &mut [u64; 2]) -> u64
+    ensures { λ r. ⌜ TextMoved (labelsJudged (now (text .entry))) (addressed (now (text .entry))) (now (out .entry)) (now (out .exit)) (now (told .exit)) r ⌝ }
+{
+    let moved = to_addresses(text, out);
+    *told = [moved.line, moved.size];
+    moved.number
 }

@@ -8,12 +8,12 @@ use mathlib.Core.List.{List, [], _∷_, _++_, map, append-assoc}
 use borrow.Author.Tests.{ltb-true}
 use lib.Dec.{ltb}
 use lib.ListN.{length, take, drop}
-use Rattle.text.specs.Cut.{tab, lineFeed, cut, rowsIn, placeOf}
+use Rattle.text.specs.Cut.{tab, lineFeed, cut, rowsIn, placeOf, joined}
 use Rattle.text.specs.Line.{name, number, letters, decimal, Entry, entryText, lineText, Line as Written}
 use Rattle.text.specs.Number.{value, numbers, plain, isNumber}
 use Rattle.text.proofs.Back.{cleanName, allClean, number-back, number-text, fields-back, line-back}
 use Rattle.text.proofs.Bools.{both, joins}
-use Rattle.text.proofs.Cuts.{has-whole, joined, joined-cut, found-has, found-piece, found-behind}
+use Rattle.text.proofs.Cuts.{has-whole, joined-cut, found-has, found-piece, found-behind}
 use Rattle.text.proofs.Decimals.{decimal-value}
 use Rattle.text.proofs.Rows.{rows-none, rows-next}
 use Rattle.fields.specs.Fields.{allNumbers}

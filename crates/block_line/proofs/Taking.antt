@@ -8,14 +8,14 @@ use native.Mathlib.Omega.{arith}
 use lib.ListN.{length, drop, length-append, length-drop}
 use lib.Seq.{drop-drop}
 use Rattle.instruction.specs.Bits.{pick}
-use Rattle.text.specs.Cut.{tab, lineFeed, before, rowsIn, placeOf, startsWith}
+use Rattle.text.specs.Cut.{tab, lineFeed, before, rowsIn, placeOf, startsWith, has}
 use Rattle.text.specs.Line.{decimal}
 use Rattle.text.specs.Number.{numbers, countedThen}
 use Rattle.text.specs.declared.Counted.{Counted}
 use Rattle.text.proofs.Alike.{starts-text}
 use Rattle.text.proofs.Back.{decimal-free, has-append, NumberThen, then-read}
 use Rattle.text.proofs.Bools.{never}
-use Rattle.text.proofs.Cuts.{has, behind, behind-piece, place-past}
+use Rattle.text.proofs.Cuts.{behind, behind-piece, place-past}
 use Rattle.nest.specs.declared.Line.{Line}
 use Rattle.nest.specs.declared.Line.the-variants.{Pulse, Repeat, End, Unshaped}
 use Rattle.block_line.specs.Line.{pulseOf, lineOf}

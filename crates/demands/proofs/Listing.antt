@@ -12,6 +12,7 @@ use lib.Dec.{eqb, leb}
 use lib.ListN.{length, getD, take, drop, take-append-drop, length-map}
 use lib.Seq.{take-append-seam, drop-append-seam}
 use Rattle.instruction.specs.Bits.{pick}
+use Rattle.instruction.specs.Form.{filled}
 use Rattle.instruction.specs.Table.{bodyOf}
 use Rattle.instruction.specs.Word.{fitsOf}
 use Rattle.instruction.specs.declared.Instruction.{Instruction}
@@ -24,12 +25,12 @@ use Rattle.reader.specs.declared.Reading.the-variants.{Accepted}
 use Rattle.writer.specs.Writing.{askedOf, writtenOf, notWritten}
 use Rattle.writer.specs.declared.Written.{Written}
 use Rattle.writer.proofs.Laws.{asked-wide}
-use Rattle.text.specs.Cut.{tab, lineFeed, cut, sameText, Row, rowsOf, rowsIn}
+use Rattle.text.specs.Cut.{tab, lineFeed, cut, sameText, Row, rowsOf, rowsIn, joined}
 use Rattle.text.specs.Line.{number, letters, decimal, entryText, lineText, Line, textOf}
 use Rattle.text.specs.Number.{value, numbers, isNumber}
 use Rattle.text.proofs.Alike.{same-text, same-self}
 use Rattle.text.proofs.Below.{all-below}
-use Rattle.text.proofs.Cuts.{joined, joined-cut}
+use Rattle.text.proofs.Cuts.{joined-cut}
 use Rattle.text.proofs.Decimals.{decimal-value}
 use Rattle.text.proofs.Back.{number-back, number-text, bare, cleanName, allClean, line-joined, fields-back, line-back}
 use Rattle.names.specs.Names.{nameOf, nameCount, nameAt, rowNamed}
@@ -37,9 +38,9 @@ use Rattle.names.proofs.Rows.{row-found, named-has}
 use Rattle.listing.specs.Listing.{entriesOf, entriesIn, wordLines, headerText, listed}
 use Rattle.listing.proofs.Lines.{listing-lines}
 use Rattle.fields.specs.Fields.{allNumbers}
-use Rattle.listing_reader.specs.ReadBack.{isKnown, instructionOf, wishIn, hasFields, fieldsRead, lineRead, lineNumber, wordIn, toldOf, isHeaded, bodyRows, readBack, wordsIn, fieldCount, refusedAt}
+use Rattle.listing_reader.specs.ReadBack.{isKnown, instructionOf, wishIn, hasFields, shapeNumber, knownNumber, fieldsRead, lineRead, lineNumber, wordIn, toldOf, isHeaded, bodyRows, readBack, wordsIn, fieldCount, refusedAt}
 use Rattle.listing_reader.specs.declared.ReadBack.{ReadBack}
-use Rattle.listing_reader.proofs.Fields.{has-fields, fields-known, known-written}
+use Rattle.listing_reader.proofs.Fields.{has-fields, fields-known, known-good}
 use Rattle.listing_reader.proofs.Lines.{number-none, good-read, good-ended, told-next, told-none, told-good}
 use Rattle.demands.specs.Word.{zeroed}
 use Rattle.demands.specs.Listing.{ListingIsListed, AllPass, ListedReadBack, ReadBackListed, RefusedUntouched}
@@ -125,13 +126,19 @@ module _ (rules : Rules) (a : ℕ) (h : a < numbers) (i : Instruction) (t : fits
       ap (λ (x : Instruction). eqb (suc (length (map decimal vs))) (length (entriesOf x)) && allNumbers (map decimal vs)) again
       ∙ rw (all-numbers (all-small i t), eq-eqb (suc (length (map decimal vs))) (length (entriesOf i)) (ap suc (length-map vs decimal) ∙ sym (entries-length i)))
 
+  -- nothing is wrong with its shape
+  shape : shapeNumber a true (decimal a ∷ letters (nameOf (i .body)) ∷ map decimal vs) ≡ 0
+  shape =
+      sym (fields-known a (decimal a) (letters (nameOf (i .body))) (map decimal vs) (number-back a h) (subst (λ (k : ℕ). k < nameCount) (sym found) (s .row)))
+      ∙ ap (λ (k : ℕ). knownNumber k (value (decimal a)) a (map decimal vs)) found
+      ∙ sym (known-good (rowOf (i .body)) (value (decimal a)) a (map decimal vs) has (decimal-value a))
+
   pub line-written : lineRead rules a row ≡ writtenOf rules i
   unfolding lineRead
   line-written =
       ap (fieldsRead rules a true) fields
-      ∙ sym (fields-known rules a (decimal a) (letters (nameOf (i .body))) (map decimal vs) (number-back a h) (subst (λ (k : ℕ). k < nameCount) (sym found) (s .row)))
-      ∙ ap (λ (k : ℕ). pick (not (hasFields k (map decimal vs))) (notWritten 61) (pick (not (eqb (value (decimal a)) a)) (notWritten 62) (writtenOf rules (instructionOf k (map value (map decimal vs)))))) found
-      ∙ sym (known-written rules (rowOf (i .body)) (value (decimal a)) a (map decimal vs) has (decimal-value a))
+      ∙ ap (λ (n : ℕ). pick (filled n) (notWritten n) (writtenOf rules (wishIn (decimal a ∷ letters (nameOf (i .body)) ∷ map decimal vs)))) shape
+      ∙ ap (λ (k : ℕ). writtenOf rules (instructionOf k (map value (map decimal vs)))) found
       ∙ ap (writtenOf rules) again
 
   pub word-written : wordIn rules row ≡ writtenOf rules i .word
@@ -228,6 +235,10 @@ record Good (rules : Rules) (a : ℕ) (fs : List (List ℕ)) : Type 0 where
   counted : value (getD fs 0 []) ≡ a
   written : writtenOf rules (wishIn fs) .number ≡ 0
 
+-- the number of a shape, by what is known of it
+abbrev shapeBy : Bool → Bool → Bool → Bool → Bool → ℕ
+shapeBy p q k s c = pick (not (p && (q && (not k || s)))) 61 (pick (not c) 62 (pick (not k) 63 0))
+
 good-fields : (rules : Rules) (a : ℕ) (fs : List (List ℕ)) → fieldsRead rules a true fs .number ≡ 0 → Good rules a fs
 good-fields rules a fs e = by (isNumber (getD fs 0 [])) refl (leb 2 (length fs)) refl (isKnown fs) refl (hasFields (rowNamed (getD fs 1 [])) (drop 2 fs)) refl (eqb (value (getD fs 0 [])) a) refl e
   where
@@ -236,7 +247,7 @@ good-fields rules a fs e = by (isNumber (getD fs 0 [])) refl (leb 2 (length fs))
 
     by : (p : Bool) → isNumber (getD fs 0 []) ≡ p → (q : Bool) → leb 2 (length fs) ≡ q → (k : Bool) → isKnown fs ≡ k
         → (s : Bool) → hasFields (rowNamed (getD fs 1 [])) (drop 2 fs) ≡ s → (c : Bool) → eqb (value (getD fs 0 [])) a ≡ c
-        → pick (not (p && (q && (not k || s)))) (notWritten 61) (pick (not c) (notWritten 62) (pick (not k) (notWritten 63) (writtenOf rules (wishIn fs)))) .number ≡ 0
+        → pick (filled (shapeBy p q k s c)) (notWritten (shapeBy p q k s c)) (writtenOf rules (wishIn fs)) .number ≡ 0
         → Good rules a fs
     by true e1 true e2 true e3 true e4 true e5 z =
         record {

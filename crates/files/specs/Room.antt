@@ -2,6 +2,10 @@
 use Prim.Native.Nat.{ℕ, _+_, _*_}
 use Rattle.sequence.specs.Bounds.{wordLimit}
 
--- the lines of a sequence, 40 bytes each, and the header
+-- the lines of a sequence, 34 bytes each without their addresses, a label of 23 bytes for each, and the header
 abbrev pub textRoom : ℕ
-textRoom = 40 * wordLimit + 16
+textRoom = 57 * wordLimit + 16
+
+-- the lines of a sequence, 40 bytes each, and the header
+abbrev pub listingRoom : ℕ
+listingRoom = 40 * wordLimit + 16

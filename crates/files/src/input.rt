@@ -1,7 +1,7 @@
 // The words of a file or of standard input, as text, raw, as a listing or as a block.
 // They come in pieces of any size; what is wrong with them is told with its place.
 use crate::texts::Written;
-use crate::texts::text_named;
+use crate::texts::words_in_text;
 use instruction::QuadSamples;
 use instruction::Rules;
 use libc::STDIN_FILENO;
@@ -20,12 +20,12 @@ struct Coming {
     failed: bool,
 }
 
-// How many words there are, or that there is no answer; whether a listing had them. A text that is refused has its number, the line
-// and how much of that line is shown.
+// How many words there are, or bytes of a text, or that there is no answer; how many lines are told of a listing that had them: one for each
+// word and the one behind the last, or none. A text that is refused has its number, the line and how much of that line is shown.
 pub struct Found {
     pub count: usize,
     pub good: bool,
-    pub listed: bool,
+    pub lines: usize,
     pub number: u64,
     pub line: u64,
     pub shown: usize,
@@ -36,7 +36,7 @@ impl Found {
         Found {
             count: 0,
             good: false,
-            listed: false,
+            lines: 0,
             number: 0,
             line: 0,
             shown: 0,
@@ -47,7 +47,7 @@ impl Found {
         Found {
             count,
             good: true,
-            listed: false,
+            lines: 0,
             number: 0,
             line: 0,
             shown: 0,
@@ -177,24 +177,25 @@ fn words_named(path: &[u8], hex: bool, words: &mut [u64]) -> Found {
     words_of_file(path, spelling, words)
 }
 
-// The words of the file that an argument names; a name that ends in .lst is a listing's, and one in .block a block's. Of a text that is
-// refused, the line is laid at the start of what is lent.
+// The words of the file that an argument names; a name that ends in .lst is a listing's, and one in .block a block's. Of a listing the lines of
+// its words are told, too; of a text that is refused, the line is laid at the start of what is lent.
 pub fn words_of(
     argument: usize,
     hex: bool,
     rules: Rules,
     wave: QuadSamples,
     words: &mut [u64],
+    lines: &mut [u64],
     line: &mut [u8],
 ) -> Found {
     let mut name = io::large_buffer();
     let n = os::arg(argument, &mut name);
     let path = &name[..n];
     if !hex & ends_in(path, b".lst") {
-        return text_named(path, Written::Listing(rules), words, line);
+        return words_in_text(argument, Written::Listing(rules), words, lines, line);
     }
     if !hex & ends_in(path, b".block") {
-        return text_named(path, Written::Block(wave), words, line);
+        return words_in_text(argument, Written::Block(wave), words, lines, line);
     }
     words_named(path, hex, words)
 }

@@ -1,21 +1,26 @@
-// The words of a text that people write, a listing or a block, as a file or standard input has it.
+// The words of a text that people write, a listing of either edition or a block, as a file or standard input has it.
 // It is read whole before the first word counts; of a bad line as much is shown as there is room for.
-ghost use mathlib.Core.Path.{_≡_};
-ghost use lib.ListN.{length};
-ghost use Rattle.files.specs.Room.{textRoom};
 use crate::input::Found;
-use crate::whole::read_text;
+use crate::lines::lay_line;
+use crate::lines::line_meant;
+use crate::lines::line_start;
+use crate::lines::word_lines;
+use crate::room;
+use crate::room::Text;
+use crate::whole;
+use crate::whole::complain_by_name;
 use block::block;
 use instruction::QuadSamples;
 use instruction::Rules;
-use libc::STDIN_FILENO;
+use listing::Listing;
+use listing_reader::ReadBack;
+use listing_reader::header_end;
 use listing_reader::read_listing;
 use sequence::Sequence;
 use text::find;
-use text::same;
+use to_addresses::to_addresses;
 use told::complaint::complain;
 use told::complaint::complain_number;
-use told::complaint::complain_of_file;
 
 // What a text is: a listing, read for a module, or a block, for a waveform memory.
 pub enum Written {
@@ -24,7 +29,7 @@ pub enum Written {
 }
 
 impl Written {
-    // Whether its lines are those of its words.
+    // Whether it tells the lines of its words.
     fn is_listing(self) -> bool {
         match self {
             Written::Listing(_) => true,
@@ -33,176 +38,197 @@ impl Written {
     }
 }
 
-// What is told of a text: 0 and how many words it has, or the number of a refusal and its line; 0 is no line.
+// What is told of a text: 0 and how many words it has, or the number of a refusal and its line, 0 for none; and how many lines are told of
+// the words, none but for a listing.
 struct Read {
     number: u64,
     line: u64,
     count: u64,
+    lines: usize,
 }
 
-struct Text;
-
-impl Text {
-    // No line of a listing is longer whose address is that of a sequence, and none of a block that fits a sequence.
-    const LINE: usize = 40;
-
-    // More than any listing of a sequence has: its lines, and less than half a line for the header. A block has fewer lines than words,
-    // but for an end, which is shorter than its repeat has words.
-    const ROOM: usize = Text::LINE * (Sequence::WORDS as usize) + 16;
+impl Read {
+    fn refused(number: u64, line: u64) -> Read {
+        Read {
+            number,
+            line,
+            count: 0,
+            lines: 0,
+        }
+    }
 }
 
-// Room for a text: zeros, of which the contract tells the number alone.
-fn room() -> [u8; Text::ROOM]
-    ensures { λ r. ⌜ textRoom ≡ length r ⌝ }
-{
-    [0; Text::ROOM]
-}
-
-fn complain_of_length(path: &[u8], line: u64, written: Written) {
+pub fn complain_of_length(argument: usize, line: u64, listing: bool) {
     complain(b"aps2: ");
-    complain(path);
+    complain_by_name(argument);
     if line != 0 {
         complain(b", line ");
         complain_number(line);
     }
-    if written.is_listing() {
+    if listing {
         complain(b": longer than a whole listing can be\n");
     } else {
         complain(b": longer than a whole block can be\n");
     }
 }
 
-// Where a line begins, counted from 1.
-fn line_start(text: &[u8], line: u64) -> usize {
-    let mut at: usize = 0;
-    let mut left = line;
-    while left > 1 && at < text.len() {
-        at = find(text, at, b'\n');
-        at = if at < text.len() { at + 1 } else { at };
-        left -= 1;
-    }
-    at
+// A refusal, with its line laid at the start of what is lent.
+pub fn refused_at(text: &[u8], number: u64, line: u64, shown: &mut [u8]) -> Found {
+    let from = line_start(text, line);
+    let mut found = Found::of(0);
+    found.number = number;
+    found.line = line;
+    found.shown = lay_line(text, from, shown);
+    found
 }
 
-// A line, laid at the start of a buffer as far as it fits; tells how far.
-fn lay_line(text: &[u8], from: usize, line: &mut [u8]) -> usize {
-    let mut i = from;
-    let mut n: usize = 0;
-    while i < text.len() {
-        if line.len() <= n {
-            return n;
-        }
-        if text[i] == b'\n' {
-            return n;
-        }
-        line[n] = text[i];
-        i += 1;
-        n += 1;
-    }
-    n
+// Whether a refusal is of what goes on past what was kept: of a line that does, or of the whole.
+fn goes_on(text: &[u8], line: u64) -> bool {
+    let from = line_start(text, line);
+    (line == 0) | (text.len() <= find(text, from, b'\n'))
 }
 
-// A text that is refused. What was kept does not tell of what goes on past it: of a line that does, or of the whole.
-fn refused(
-    text: &[u8],
-    more: bool,
-    read: Read,
-    written: Written,
-    path: &[u8],
-    line: &mut [u8],
-) -> Found {
-    let from = line_start(text, read.line);
-    if more && ((read.line == 0) | (text.len() <= find(text, from, b'\n'))) {
-        complain_of_length(path, read.line, written);
-        return Found::nothing();
-    }
-    Found {
-        count: 0,
-        good: true,
-        listed: true,
+// The words of a listing of edition 1.
+fn read_addressed(text: &[u8], rules: Rules, words: &mut [u64]) -> Read {
+    let read = read_listing(text, rules, words);
+    Read {
         number: read.number,
         line: read.line,
-        shown: lay_line(text, from, line),
+        count: read.count,
+        lines: 0,
     }
 }
 
-fn read_as(text: &[u8], written: Written, words: &mut [u64]) -> Read {
-    match written {
-        Written::Listing(rules) => {
-            let read = read_listing(text, rules, words);
-            Read {
-                number: read.number,
-                line: read.line,
-                count: read.count,
-            }
-        }
-        Written::Block(wave) => {
-            let read = block(text, wave, words);
-            Read {
-                number: read.number,
-                line: read.line,
-                count: read.count,
-            }
-        }
+// The words of what a listing of edition 2 moves to, of so many bytes.
+fn read_moved(moved: &[u8], size: usize, rules: Rules, words: &mut [u64]) -> Read {
+    if moved.len() < size {
+        return Read::refused(ReadBack::NO_ROOM, 0);
     }
+    read_addressed(&moved[..size], rules, words)
+}
+
+// The line of the first word that a sequence has no place for, where so many lines are told that there is one; else none.
+fn line_too_many(lines: &[u64], told: usize) -> u64 {
+    if told <= Sequence::WORDS as usize + 1 {
+        return 0;
+    }
+    line_meant(lines, Sequence::WORDS + ReadBack::FIRST_LINE)
+}
+
+// The words of a listing of edition 2, of which so many lines are told. A refusal of what it moves to has the line of the same word.
+fn read_labelled(text: &[u8], rules: Rules, words: &mut [u64], lines: &[u64], told: usize) -> Read {
+    let mut listing = room::for_listing();
+    let moved = to_addresses(text, &mut listing);
+    if moved.number == ReadBack::NO_ROOM {
+        return Read::refused(moved.number, line_too_many(lines, told));
+    }
+    if moved.number != 0 {
+        return Read::refused(moved.number, moved.line);
+    }
+    let mut read = read_moved(&listing, moved.size as usize, rules, words);
+    read.line = line_meant(lines, read.line);
+    read
+}
+
+fn is_labelled(text: &[u8]) -> bool {
+    header_end(text, Listing::LABELLED) != 0
+}
+
+// The words of a listing, which tells its edition, and the lines that they stand in.
+fn read_either(text: &[u8], rules: Rules, words: &mut [u64], lines: &mut [u64]) -> Read {
+    let told = word_lines(text, lines);
+    let mut read = if is_labelled(text) {
+        read_labelled(text, rules, words, lines, told)
+    } else {
+        read_addressed(text, rules, words)
+    };
+    read.lines = told;
+    read
+}
+
+fn read_block(text: &[u8], wave: QuadSamples, words: &mut [u64]) -> Read {
+    let read = block(text, wave, words);
+    Read {
+        number: read.number,
+        line: read.line,
+        count: read.count,
+        lines: 0,
+    }
+}
+
+fn read_as(text: &[u8], written: Written, words: &mut [u64], lines: &mut [u64]) -> Read {
+    match written {
+        Written::Listing(rules) => read_either(text, rules, words, lines),
+        Written::Block(wave) => read_block(text, wave, words),
+    }
+}
+
+// What can be told of a text that goes on past what is kept: what is wrong with an earlier line, but of a listing of edition 2 nothing, since
+// its labels may be defined in what is missing.
+fn found_in_part(
+    text: &[u8],
+    written: Written,
+    read: Read,
+    argument: usize,
+    line: &mut [u8],
+) -> Found {
+    let listing = written.is_listing();
+    if (read.number == 0) | (listing & is_labelled(text)) {
+        complain_of_length(argument, 0, listing);
+        return Found::nothing();
+    }
+    if goes_on(text, read.line) {
+        complain_of_length(argument, read.line, listing);
+        return Found::nothing();
+    }
+    refused_at(text, read.number, read.line, line)
 }
 
 fn found_in(
     text: &[u8],
     written: Written,
     more: bool,
-    path: &[u8],
+    argument: usize,
     words: &mut [u64],
+    lines: &mut [u64],
     line: &mut [u8],
 ) -> Found {
-    let read = read_as(text, written, words);
-    if read.number != 0 {
-        return refused(text, more, read, written, path, line);
-    }
+    let read = read_as(text, written, words, lines);
     if more {
-        complain_of_length(path, read.count, written);
-        return Found::nothing();
+        return found_in_part(text, written, read, argument, line);
+    }
+    if read.number != 0 {
+        return refused_at(text, read.number, read.line, line);
     }
     let mut found = Found::of(read.count as usize);
-    found.listed = written.is_listing();
+    found.lines = read.lines;
     found
 }
 
-fn text_in(fd: i32, path: &[u8], written: Written, words: &mut [u64], line: &mut [u8]) -> Found {
-    let mut text = room();
-    let kept = read_text(fd, &mut text);
+// The words of the text that an argument names, and the lines that they stand in where it is a listing; of one that is refused, the line is
+// laid at the start of what is lent.
+pub fn words_in_text(
+    argument: usize,
+    written: Written,
+    words: &mut [u64],
+    lines: &mut [u64],
+    line: &mut [u8],
+) -> Found {
+    let mut text = room::for_text();
+    let kept = whole::text_of(argument, &mut text);
     if kept.failed {
-        complain_of_file(path);
         return Found::nothing();
     }
     if kept.count <= Text::ROOM {
-        return found_in(&text[..kept.count], written, kept.more, path, words, line);
+        return found_in(
+            &text[..kept.count],
+            written,
+            kept.more,
+            argument,
+            words,
+            lines,
+            line,
+        );
     }
     Found::nothing()
-}
-
-fn text_in_file(path: &[u8], written: Written, words: &mut [u64], line: &mut [u8]) -> Found {
-    let fd = os::open_read(path);
-    if fd < 0 {
-        complain_of_file(path);
-        return Found::nothing();
-    }
-    let found = text_in(fd, path, written, words, line);
-    libc::close(fd);
-    found
-}
-
-// The words of the text that has this name; of one that is refused, the line is laid at the start of what is lent.
-pub fn text_named(path: &[u8], written: Written, words: &mut [u64], line: &mut [u8]) -> Found {
-    if same(path, b"-") {
-        return text_in(STDIN_FILENO, b"standard input", written, words, line);
-    }
-    text_in_file(path, written, words, line)
-}
-
-// The words of the text that an argument names.
-pub fn text_of(argument: usize, written: Written, words: &mut [u64], line: &mut [u8]) -> Found {
-    let mut name = io::large_buffer();
-    let n = os::arg(argument, &mut name);
-    text_named(&name[..n], written, words, line)
 }

@@ -76,12 +76,18 @@ linesFrom rules bytes a n = wordLines rules a (wordsFrom bytes a n)
 abbrev pub listedWords : ℕ
 listedWords = 2048
 
--- "`aps2-listing`, tab, `1`"
+-- "`aps2-listing`, tab, `1`", the number being that of the edition
+abbrev pub headerOf : ℕ → Line
+headerOf edition = record { first = name "aps2-listing"; rest = number edition ∷ [] }
+
+abbrev pub headOf : ℕ → List ℕ
+headOf edition = lineText (headerOf edition .first) (headerOf edition .rest)
+
 abbrev pub header : Line
-header = record { first = name "aps2-listing"; rest = number 1 ∷ [] }
+header = headerOf 1
 
 abbrev pub headerText : List ℕ
-headerText = lineText (header .first) (header .rest)
+headerText = headOf 1
 
 -- words as they are listed, however many
 abbrev pub listed : Rules → List ℕ → List ℕ

@@ -8,7 +8,7 @@ ghost use Rattle.buffer.specs.Put.{Fits, Put};
 ghost use Rattle.reader.specs.Reading.{readingOf};
 ghost use Rattle.text.specs.Line.{name, number, restText, lineText, textOf};
 ghost use Rattle.instruction.specs.Word.{wordBytes};
-ghost use Rattle.listing.specs.Listing.{wordAt, shownOf, entriesOf, badNumbers, entriesIn, linesFrom, headerText, listingOf, heardSize, heardOf, pageSize, Listed};
+ghost use Rattle.listing.specs.Listing.{wordAt, shownOf, entriesOf, badNumbers, entriesIn, linesFrom, headOf, listingOf, heardSize, heardOf, pageSize, Listed};
 use instruction::Body;
 use instruction::Instruction;
 use instruction::Refusal;
@@ -36,6 +36,9 @@ impl Listing {
 
     // What the header line says of the listing's form.
     pub const EDITION: u64 = 1;
+
+    // The edition in which jumps go to labels.
+    pub const LABELLED: u64 = 2;
 
     // A bit is set that is not named; which kind it is, and which bit, come after it.
     pub const UNNAMED: u64 = 11;
@@ -145,12 +148,12 @@ fn put_pair(page: &mut [u8], text: &[u8], n: u64) -> usize
     put_one(page, end, n)
 }
 
-// The header line, from the start of a page.
-pub fn put_header(page: &mut [u8]) -> usize
-    requires { ⌜ Fits (headerText) (now page) 0 ⌝ }
-    ensures { λ r. ⌜ Put (headerText) (now (page .entry)) 0 (now (page .exit)) r ⌝ }
+// The header line of an edition, from the start of a page.
+pub fn put_header(page: &mut [u8], edition: u64) -> usize
+    requires { ⌜ Fits (headOf edition) (now page) 0 ⌝ }
+    ensures { λ r. ⌜ Put (headOf edition) (now (page .entry)) 0 (now (page .exit)) r ⌝ }
 {
-    put_pair(page, b"aps2-listing", Listing::EDITION)
+    put_pair(page, b"aps2-listing", edition)
 }
 
 // The word at an address, most significant byte first.
@@ -194,7 +197,7 @@ fn lay_out(bytes: &[u8], page: &mut [u8], rules: Rules) -> usize
     if Listing::WORDS < n {
         return put_pair(page, b"refused", Listing::TOO_MANY);
     }
-    let from = put_header(page);
+    let from = put_header(page, Listing::EDITION);
     put_lines(page, from, bytes, n, rules)
 }
 

@@ -1,10 +1,11 @@
 -- Laws of a line's fields: numbers gathered one after the other, and what a line is read as once its fields are known.
 -- Assumes nothing.
 use Prim.Native.Nat.{ℕ, suc, _+_, _-_, _≤_, _<_}
-use mathlib.Core.Path.{_≡_, refl, sym, ap, ap₂, _∙_}
+use mathlib.Core.Path.{_≡_, refl, sym, ap, ap₂, subst, _∙_}
 use mathlib.Core.Bool.{Bool, true, false, not, _&&_}
 use mathlib.Core.List.{List, [], _∷_, map}
 use native.Mathlib.Omega.{arith}
+use native.Mathlib.Nat.{zero-add}
 use native.Mathlib.Decide.{ℕ-discrete}
 use borrow.Author.Tests.{eq-eqb, ne-eqb, eqb-true, leb-true, le-leb, lt-ltb, le-ltb}
 use lib.Dec.{eqb, leb}
@@ -28,7 +29,8 @@ use Rattle.fields.proofs.Gathered.{first-field, values-at}
 use Rattle.names.specs.Names.{nameCount, rowNamed}
 use Rattle.listing.specs.Listing.{entriesOf}
 use Rattle.writer.specs.Writing.{notWritten, writtenOf}
-use Rattle.listing_reader.specs.ReadBack.{instructionOf, hasFields, fieldsRead, lineRead, fieldCount, knownRead}
+use Rattle.listing_reader.specs.ReadBack.{numbersIn, instructionOf, wishIn, hasFields, shapeNumber, lineRead, fieldCount, knownNumber, KnownShape, Shaped}
+use Rattle.listing_reader.specs.declared.line.Shape.{Shape}
 
 -- ---- the instruction of a name and its numbers
 
@@ -67,48 +69,55 @@ module _ (vs : List ℕ) {values : List ℕ} (e : values ≡ put (replicate 6 0)
 
 -- ---- a line whose fields are known
 
-module _ (rules : Rules) (row : ℕ) (address a : ℕ) (ns : List (List ℕ)) where
-  pub known-61 : hasFields row ns ≡ false → notWritten 61 ≡ knownRead rules row address a ns
+module _ (row address a : ℕ) (ns : List (List ℕ)) where
+  pub known-61 : hasFields row ns ≡ false → 61 ≡ knownNumber row address a ns
   known-61 e = rw e
 
-  pub known-62 : hasFields row ns ≡ true → (address ≡ a → ⊥) → notWritten 62 ≡ knownRead rules row address a ns
+  pub known-62 : hasFields row ns ≡ true → (address ≡ a → ⊥) → 62 ≡ knownNumber row address a ns
   known-62 e n = rw (e, ne-eqb address a n)
 
-  pub known-written : hasFields row ns ≡ true → address ≡ a → writtenOf rules (instructionOf row (map value ns)) ≡ knownRead rules row address a ns
-  known-written e n = rw (e, eq-eqb address a n)
+  pub known-good : hasFields row ns ≡ true → address ≡ a → 0 ≡ knownNumber row address a ns
+  known-good e n = rw (e, eq-eqb address a n)
 
-module _ (rules : Rules) (a : ℕ) (f : List ℕ) where
-  pub fields-61 : (fs : List (List ℕ)) → isNumber f ≡ false → notWritten 61 ≡ fieldsRead rules a true (f ∷ fs)
+module _ (a : ℕ) (f : List ℕ) where
+  pub fields-61 : (fs : List (List ℕ)) → isNumber f ≡ false → 61 ≡ shapeNumber a true (f ∷ fs)
   fields-61 fs e = rw e
 
-  pub fields-alone : isNumber f ≡ true → notWritten 61 ≡ fieldsRead rules a true (f ∷ [])
+  pub fields-alone : isNumber f ≡ true → 61 ≡ shapeNumber a true (f ∷ [])
   fields-alone e = rw e
 
   module _ (n : List ℕ) (ns : List (List ℕ)) (e : isNumber f ≡ true) where
     two : leb 2 (suc (suc (length ns))) ≡ true
     two = le-leb 2 (suc (suc (length ns))) (omega arith)
 
-    pub fields-known : rowNamed n < nameCount → knownRead rules (rowNamed n) (value f) a ns ≡ fieldsRead rules a true (f ∷ n ∷ ns)
+    pub fields-known : rowNamed n < nameCount → knownNumber (rowNamed n) (value f) a ns ≡ shapeNumber a true (f ∷ n ∷ ns)
     fields-known h = rw (e, two, lt-ltb (rowNamed n) nameCount h)
 
-    pub fields-unknown : nameCount ≤ rowNamed n → pick (not (eqb (value f) a)) (notWritten 62) (notWritten 63) ≡ fieldsRead rules a true (f ∷ n ∷ ns)
+    pub fields-unknown : nameCount ≤ rowNamed n → pick (not (eqb (value f) a)) 62 63 ≡ shapeNumber a true (f ∷ n ∷ ns)
     fields-unknown h = rw (e, two, le-ltb (rowNamed n) nameCount h)
 
 -- ---- a line, as its fields are found
 
-module _ (rules : Rules) (line : List ℕ) (a : ℕ) {r : Counted} (n : r ≡ countedAt 0 line) where
-  abbrev whole : Row
-  whole = record { bytes = line; ended = true }
+-- what is refused says nothing but its number
+refused-shape : (a : ℕ) (fs : List (List ℕ)) (before after : List ℕ) {r : Shape} {n : ℕ} → r ≡ record { number = n; row = 0; from = 0 } → n ≡ shapeNumber a true fs → (n ≡ 0 → ⊥)
+    → Shaped a fs before after r
+refused-shape a fs before after {r = r} {n = n} e f h =
+    record {
+      number = ap (λ (s : Shape). s .number) e ∙ f;
+      row = λ z. absurd (h (sym (ap (λ (s : Shape). s .number) e) ∙ z));
+      from = λ z. absurd (h (sym (ap (λ (s : Shape). s .number) e) ∙ z));
+      values = λ z. absurd (h (sym (ap (λ (s : Shape). s .number) e) ∙ z));
+    }
 
+module _ (line : List ℕ) (a : ℕ) (before : List ℕ) {r : Counted} (n : r ≡ countedAt 0 line) where
   abbrev address : List ℕ
   address = fieldAt 0 line
 
-  by-fields : (fs : List (List ℕ)) → cut tab line ≡ fs → fieldsRead rules a true fs ≡ lineRead rules a whole
-  unfolding lineRead
-  by-fields fs e = ap (fieldsRead rules a true) (sym e)
+  no-line : {fs : List (List ℕ)} → cut tab line ≡ fs → 61 ≡ shapeNumber a true fs → {s : Shape} → s ≡ record { number = 61; row = 0; from = 0 } → Shaped a (cut tab line) before before s
+  no-line e f g = refused-shape a (cut tab line) before before g (f ∙ ap (shapeNumber a true) (sym e)) (λ z. omega arith)
 
-  pub line-not : r .plain ≡ false → notWritten 61 ≡ lineRead rules a whole
-  line-not p = fields-61 rules a address (fieldsAfter (placeOf tab 0 line) line) (number-not tab 0 line n p) ∙ by-fields _ (first-field line)
+  pub line-not : r .plain ≡ false → {s : Shape} → s ≡ record { number = 61; row = 0; from = 0 } → Shaped a (cut tab line) before before s
+  line-not p = no-line (first-field line) (fields-61 a address (fieldsAfter (placeOf tab 0 line) line) (number-not tab 0 line n p))
 
   module _ (p : r .plain ≡ true) where
     s : (isNumber address ≡ true) × (r .value ≡ value address) × (r .end ≡ placeOf tab 0 line)
@@ -117,10 +126,8 @@ module _ (rules : Rules) (line : List ℕ) (a : ℕ) {r : Counted} (n : r ≡ co
     start : cut tab line ≡ address ∷ fieldsAfter (r .end) line
     start = first-field line ∙ ap (λ (i : ℕ). address ∷ fieldsAfter i line) (sym (s .2))
 
-    pub line-alone : length line ≤ r .end → notWritten 61 ≡ lineRead rules a whole
-    line-alone h =
-        fields-alone rules a address (s .0)
-        ∙ by-fields _ (start ∙ ap (λ (fs : List (List ℕ)). address ∷ fs) (after-last line (r .end) h))
+    pub line-alone : length line ≤ r .end → {s : Shape} → s ≡ record { number = 61; row = 0; from = 0 } → Shaped a (cut tab line) before before s
+    line-alone h = no-line (start ∙ ap (λ (fs : List (List ℕ)). address ∷ fs) (after-last line (r .end) h)) (fields-alone a address (s .0))
 
     module _ (h : r .end < length line) {later : ℕ} (g : later ≡ placeOf tab (r .end + 1) line) where
       abbrev name : List ℕ
@@ -136,33 +143,71 @@ module _ (rules : Rules) (line : List ℕ) (a : ℕ) {r : Counted} (n : r ≡ co
       two-fields = start ∙ ap (λ (fs : List (List ℕ)). address ∷ fs) (after-next line (r .end) h g)
 
       module _ {row : ℕ} (m : row ≡ rowNamed name) where
-        pub line-known : row < nameCount → knownRead rules row (r .value) a (fieldsAfter later line) ≡ lineRead rules a whole
-        line-known l =
-            ap₂ (λ (k x : ℕ). knownRead rules k x a (fieldsAfter later line)) m (s .1)
-            ∙ fields-known rules a address name (fieldsAfter later line) (s .0) (omega (arith, m))
-            ∙ by-fields _ two-fields
+        pub line-known : row < nameCount → {after : List ℕ} {k : ℕ} → KnownShape row (r .value) a (fieldsAfter later line) before after k
+            → Shaped a (cut tab line) before after (record { number = k; row = row; from = r .end + 1 })
+        line-known l {after = after} {k = k} w =
+            subst (λ (fs : List (List ℕ)). Shaped a fs before after (record { number = k; row = row; from = r .end + 1 })) (sym two-fields)
+            (record {
+              number =
+                  w .number
+                  ∙ ap₂ (λ (k x : ℕ). knownNumber k x a (fieldsAfter later line)) m (s .1)
+                  ∙ fields-known a address name (fieldsAfter later line) (s .0) (omega (arith, m));
+              row = λ z. m;
+              from = λ z. ap (λ (i : ℕ). i + 1) (s .2 ∙ zero-add (length address));
+              values = w .values;
+            })
 
-        pub line-unknown : nameCount ≤ row → pick (not (eqb (r .value) a)) (notWritten 62) (notWritten 63) ≡ lineRead rules a whole
-        line-unknown l =
-            ap (λ (x : ℕ). pick (not (eqb x a)) (notWritten 62) (notWritten 63)) (s .1)
-            ∙ fields-unknown rules a address name (fieldsAfter later line) (s .0) (omega (arith, m))
-            ∙ by-fields _ two-fields
+        pub line-unknown : nameCount ≤ row → {k : ℕ} → k ≡ pick (not (eqb (r .value) a)) 62 63 → {s : Shape} → s ≡ record { number = k; row = 0; from = 0 }
+            → Shaped a (cut tab line) before before s
+        line-unknown l {k = k} e f =
+            refused-shape a (cut tab line) before before f
+            (e
+            ∙ ap (λ (x : ℕ). pick (not (eqb x a)) 62 63) (s .1)
+            ∙ fields-unknown a address name (fieldsAfter later line) (s .0) (omega (arith, m))
+            ∙ ap (shapeNumber a true) (sym two-fields))
+            (some (eqb (r .value) a) e)
+          where
+            some : (t : Bool) → k ≡ pick (not t) 62 63 → k ≡ 0 → ⊥
+            some true q z = omega arith
+            some false q z = omega arith
 
 -- ---- a line whose name is known, as its numbers are gathered
 
-module _ (rules : Rules) (row address a : ℕ) (h : row < nameCount) (ns : List (List ℕ)) {count : ℕ} (c : count ≡ fieldCount row)
-    {after : List ℕ} {r : Bool} (g : NumbersRead count ns (replicate 6 0) after r) where
+module _ (row address a : ℕ) (h : row < nameCount) (ns : List (List ℕ)) {count : ℕ} (c : count ≡ fieldCount row)
+    {before after : List ℕ} {r : Bool} (g : NumbersRead count ns before after r) where
   tested : hasFields row ns ≡ r
   tested = has-fields row ns h ∙ ap (λ (k : ℕ). eqb (length ns) k && allNumbers ns) (sym c) ∙ sym (g .test)
 
-  pub gathered-61 : r ≡ false → notWritten 61 ≡ knownRead rules row address a ns
-  gathered-61 e = known-61 rules row address a ns (tested ∙ e)
+  pub gathered-61 : r ≡ false → KnownShape row address a ns before after 61
+  gathered-61 e = record { number = known-61 row address a ns (tested ∙ e); values = λ z. absurd (omega arith) }
 
-  pub gathered-62 : r ≡ true → (address ≡ a → ⊥) → notWritten 62 ≡ knownRead rules row address a ns
-  gathered-62 e = known-62 rules row address a ns (tested ∙ e)
+  pub gathered-62 : r ≡ true → (address ≡ a → ⊥) → KnownShape row address a ns before after 62
+  gathered-62 e n = record { number = known-62 row address a ns (tested ∙ e) n; values = λ z. absurd (omega arith) }
 
-  pub gathered-written : r ≡ true → address ≡ a → {body : Body} → body ≡ bodyOf row (getD after 2 0 ∷ getD after 3 0 ∷ getD after 4 0 ∷ getD after 5 0 ∷ [])
-      → writtenOf rules (record { engine = getD after 0 0; write = getD after 1 0; body = body }) ≡ knownRead rules row address a ns
-  gathered-written e n b =
-      ap (writtenOf rules) ((λ j. record { engine = getD after 0 0; write = getD after 1 0; body = b j }) ∙ laid-instruction (map value ns) (g .values e) row)
-      ∙ known-written rules row address a ns (tested ∙ e) n
+  pub gathered-good : r ≡ true → address ≡ a → KnownShape row address a ns before after 0
+  gathered-good e n = record { number = known-good row address a ns (tested ∙ e) n; values = λ z. g .values e }
+
+-- ---- a line, read
+
+module _ (rules : Rules) (line : List ℕ) (a : ℕ) {after : List ℕ} {r : Shape} (s : Shaped a (cut tab line) (replicate 6 0) after r) where
+  abbrev whole : Row
+  whole = record { bytes = line; ended = true }
+
+  abbrev shape : ℕ
+  shape = shapeNumber a true (cut tab line)
+
+  pub read-refused : (r .number ≡ 0 → ⊥) → record { number = r .number; word = 0 } ≡ lineRead rules a whole
+  unfolding lineRead
+  read-refused n =
+      ap notWritten (s .number)
+      ∙ sym (ap (λ (t : Bool). pick (not t) (notWritten shape) (writtenOf rules (wishIn (cut tab line)))) (ne-eqb shape 0 (λ z. n (s .number ∙ z))))
+
+  pub read-written : r .number ≡ 0 → {body : Body} → body ≡ bodyOf (r .row) (getD after 2 0 ∷ getD after 3 0 ∷ getD after 4 0 ∷ getD after 5 0 ∷ [])
+      → writtenOf rules (record { engine = getD after 0 0; write = getD after 1 0; body = body }) ≡ lineRead rules a whole
+  unfolding lineRead
+  read-written z b =
+      ap (writtenOf rules)
+      ((λ j. record { engine = getD after 0 0; write = getD after 1 0; body = b j })
+      ∙ laid-instruction (map value (numbersIn (cut tab line))) (s .values z) (r .row)
+      ∙ ap (λ (k : ℕ). instructionOf k (map value (numbersIn (cut tab line)))) (s .row z))
+      ∙ sym (ap (λ (t : Bool). pick (not t) (notWritten shape) (writtenOf rules (wishIn (cut tab line)))) (eq-eqb shape 0 (sym (s .number) ∙ z)))

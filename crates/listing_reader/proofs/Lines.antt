@@ -12,6 +12,7 @@ use lib.ListN.{length, set, take, drop, length-append}
 use lib.Seq.{take-all}
 use Rattle.instruction.specs.Bits.{pick}
 use Rattle.instruction.specs.declared.Rules.{Rules}
+use Rattle.instruction.specs.Form.{filled}
 use Rattle.buffer.specs.Put.{put, Put}
 use Rattle.buffer.proofs.Laws.{put-none, length-put, put-more, put-front, front-put}
 use Rattle.text.specs.Cut.{lineFeed, sameText, Row, fieldsIn, placeOf, rowAt, rowsIn}
@@ -19,40 +20,56 @@ use Rattle.text.proofs.Alike.{same-sizes}
 use Rattle.text.proofs.Cuts.{found-order, found-inside}
 use Rattle.text.proofs.Decimals.{decimal-one}
 use Rattle.text.proofs.Rows.{rows-none, rows-next}
-use Rattle.listing.specs.Listing.{headerText}
+use Rattle.listing.specs.Listing.{headOf, headerText}
 use Rattle.writer.specs.Writing.{notWritten, writtenOf}
 use Rattle.writer.specs.declared.Written.{Written}
-use Rattle.listing_reader.specs.ReadBack.{isKnown, isShaped, wishIn, lineRead, lineNumber, wordIn, refusedAt, toldOf, isHeaded, bodyRows, readBack, wordsIn, ReadsBack}
+use Rattle.listing_reader.specs.ReadBack.{wishIn, shapeNumber, lineRead, lineNumber, wordIn, refusedAt, toldOf, isEdition, isHeaded, bodyRows, readBack, wordsIn, ReadsBack}
 use Rattle.listing_reader.specs.declared.ReadBack.{ReadBack}
 
 -- ---- the header
 
-pub header-size : length headerText ≡ 15
-header-size = rw (decimal-one 1 (omega arith))
+pub header-size : (edition : ℕ) → edition < 10 → length (headOf edition) ≡ 15
+header-size edition h = rw (decimal-one edition h)
 
-module _ (text before : List ℕ) {page : List ℕ} {r : ℕ} (p : Put headerText before 0 page r) where
-  size : r ≡ length headerText
+module _ (edition : ℕ) (text before : List ℕ) {page : List ℕ} {r : ℕ} (p : Put (headOf edition) before 0 page r) where
+  size : r ≡ length (headOf edition)
   size = p .end ∙ omega arith
 
-  on-page : take r page ≡ headerText
-  on-page = ap (λ (n : ℕ). take n page) size ∙ ap (take (length headerText)) (p .wrote) ∙ front-put before headerText
+  on-page : take r page ≡ headOf edition
+  on-page = ap (λ (n : ℕ). take n page) size ∙ ap (take (length (headOf edition))) (p .wrote) ∙ front-put before (headOf edition)
 
-  judged : (t : Bool) → sameText (take r text) (take r page) ≡ t → isHeaded text ≡ t
+  judged : (t : Bool) → sameText (take r text) (take r page) ≡ t → isEdition edition text ≡ t
   judged t e =
-      ap (λ (n : ℕ). sameText (take n text) headerText) (sym size)
+      ap (λ (n : ℕ). sameText (take n text) (headOf edition)) (sym size)
       ∙ ap (sameText (take r text)) (sym on-page)
       ∙ e
 
-  pub header-short : length text < r → 0 ≡ pick (isHeaded text) (length headerText) 0
+  pub header-short : length text < r → 0 ≡ pick (isEdition edition text) (length (headOf edition)) 0
   header-short h =
-      sym (ap (λ (t : Bool). pick t (length headerText) 0)
-      (same-sizes (take (length headerText) text) headerText (λ e. omega (arith, h, size, e, ap length (take-all (length headerText) text (omega (arith, h, size)))))))
+      sym (ap (λ (t : Bool). pick t (length (headOf edition)) 0)
+      (same-sizes (take (length (headOf edition)) text) (headOf edition) (λ e. omega (arith, h, size, e, ap length (take-all (length (headOf edition)) text (omega (arith, h, size)))))))
 
-  pub header-here : sameText (take r text) (take r page) ≡ true → r ≡ pick (isHeaded text) (length headerText) 0
-  header-here e = size ∙ sym (ap (λ (t : Bool). pick t (length headerText) 0) (judged true e))
+  pub header-here : sameText (take r text) (take r page) ≡ true → r ≡ pick (isEdition edition text) (length (headOf edition)) 0
+  header-here e = size ∙ sym (ap (λ (t : Bool). pick t (length (headOf edition)) 0) (judged true e))
 
-  pub header-not : sameText (take r text) (take r page) ≡ false → 0 ≡ pick (isHeaded text) (length headerText) 0
-  header-not e = sym (ap (λ (t : Bool). pick t (length headerText) 0) (judged false e))
+  pub header-not : sameText (take r text) (take r page) ≡ false → 0 ≡ pick (isEdition edition text) (length (headOf edition)) 0
+  header-not e = sym (ap (λ (t : Bool). pick t (length (headOf edition)) 0) (judged false e))
+
+-- a text of an edition, by where its lines begin
+module _ (edition : ℕ) (text : List ℕ) (small : edition < 10) {from : ℕ} (e : from ≡ pick (isEdition edition text) (length (headOf edition)) 0) where
+  pub edition-is : (from ≡ 0 → ⊥) → (isEdition edition text ≡ true) × (from ≡ length (headOf edition))
+  edition-is h = by (isEdition edition text) refl e
+    where
+      by : (t : Bool) → isEdition edition text ≡ t → from ≡ pick t (length (headOf edition)) 0 → (isEdition edition text ≡ true) × (from ≡ length (headOf edition))
+      by true f g = (f, g)
+      by false f g = absurd (h g)
+
+  pub edition-not : from ≡ 0 → isEdition edition text ≡ false
+  edition-not h = by (isEdition edition text) refl e
+    where
+      by : (t : Bool) → isEdition edition text ≡ t → from ≡ pick t (length (headOf edition)) 0 → isEdition edition text ≡ false
+      by true f g = absurd (omega (arith, h, g, header-size edition small))
+      by false f g = f
 
 -- ---- the number of a line
 
@@ -101,14 +118,14 @@ module _ (rules : Rules) (room a : ℕ) (row : Row) where
 
     pub good-word : lineRead rules a row .word ≡ wordIn rules row
     unfolding lineRead wordIn
-    good-word = last (not (isShaped (row .ended) (fieldsIn row))) (not (eqb _ a)) (not (isKnown (fieldsIn row))) (writtenOf rules (wishIn (fieldsIn row))) good-read
+    good-word = last (shapeNumber a (row .ended) (fieldsIn row)) (writtenOf rules (wishIn (fieldsIn row))) good-read
       where
-        last : (p q r : Bool) (w : Written) → pick p (notWritten 61) (pick q (notWritten 62) (pick r (notWritten 63) w)) .number ≡ 0
-            → pick p (notWritten 61) (pick q (notWritten 62) (pick r (notWritten 63) w)) .word ≡ w .word
-        last true q r w f = absurd (let z : _≡_ {A = ℕ} 61 0 = f in omega arith)
-        last false true r w f = absurd (let z : _≡_ {A = ℕ} 62 0 = f in omega arith)
-        last false false true w f = absurd (let z : _≡_ {A = ℕ} 63 0 = f in omega arith)
-        last false false false w f = refl
+        last : (n : ℕ) (w : Written) → pick (filled n) (notWritten n) w .number ≡ 0 → pick (filled n) (notWritten n) w .word ≡ w .word
+        last n w f = by (ℕ-discrete n 0)
+          where
+            by : Dec (n ≡ 0) → pick (filled n) (notWritten n) w .word ≡ w .word
+            by (yes z) = ap (λ (t : Bool). pick (not t) (notWritten n) w .word) (eq-eqb n 0 z)
+            by (no z) = absurd (z (sym (ap (λ (t : Bool). pick (not t) (notWritten n) w .number) (ne-eqb n 0 z)) ∙ f))
 
 -- a line with its line feed, as it is read
 pub read-number : (rules : Rules) (text : List ℕ) (at end a : ℕ) → end < length text → {read : Written}
@@ -246,19 +263,11 @@ module _ (rules : Rules) (text : List ℕ) (from : ℕ) (before : List ℕ) wher
 
 module _ (rules : Rules) (text before : List ℕ) {from : ℕ} (e : from ≡ pick (isHeaded text) (length headerText) 0) where
   headed : (from ≡ 0 → ⊥) → (isHeaded text ≡ true) × (from ≡ length headerText)
-  headed h = by (isHeaded text) refl e
-    where
-      by : (t : Bool) → isHeaded text ≡ t → from ≡ pick t (length headerText) 0 → (isHeaded text ≡ true) × (from ≡ length headerText)
-      by true f g = (f, g)
-      by false f g = absurd (h g)
+  headed = edition-is 1 text (omega arith) e
 
   pub not-headed : from ≡ 0 → ReadsBack rules text before before (refusedAt 60 1)
   unfolding readBack
-  not-headed h = by (isHeaded text) refl e
-    where
-      by : (t : Bool) → isHeaded text ≡ t → from ≡ pick t (length headerText) 0 → ReadsBack rules text before before (refusedAt 60 1)
-      by true f g = absurd (omega (arith, h, g, header-size))
-      by false f g = record { answer = sym (ap (λ (t : Bool). pick t (toldOf rules (length before) 0 (bodyRows text)) (refusedAt 60 1)) f); words = refl }
+  not-headed h = record { answer = sym (ap (λ (t : Bool). pick t (toldOf rules (length before) 0 (bodyRows text)) (refusedAt 60 1)) (edition-not 1 text (omega arith) e h)); words = refl }
 
   module _ (h : from ≡ 0 → ⊥) {told : ReadBack} (t : told ≡ toldOf rules (length before) 0 (rowsIn (drop from text))) where
     rest : rowsIn (drop from text) ≡ bodyRows text

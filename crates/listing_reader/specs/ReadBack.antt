@@ -2,7 +2,7 @@
 -- Line by line: what is wrong with it, or the word that the writer writes for it; names and fields are those that the listing shows.
 use Prim.Native.Nat.{ℕ, suc, _+_, _-_}
 use mathlib.Core.Path.{_≡_}
-use mathlib.Core.Bool.{Bool, not, _||_, _&&_}
+use mathlib.Core.Bool.{Bool, true, not, _||_, _&&_}
 use mathlib.Core.List.{List, [], _∷_, _++_, map}
 use lib.Dec.{ltb, eqb, leb}
 use lib.ListN.{length, getD, take, drop}
@@ -11,14 +11,16 @@ use Rattle.instruction.specs.Form.{filled}
 use Rattle.instruction.specs.Table.{bodyOf}
 use Rattle.instruction.specs.declared.Instruction.{Instruction}
 use Rattle.instruction.specs.declared.Rules.{Rules}
+use Rattle.buffer.specs.Put.{put}
 use Rattle.text.specs.Cut.{Row, rowsIn, fieldsIn, sameText}
 use Rattle.text.specs.Number.{value, isNumber}
 use Rattle.fields.specs.Fields.{allNumbers}
 use Rattle.names.specs.Names.{nameCount, rowNamed}
-use Rattle.listing.specs.Listing.{entriesOf, headerText}
+use Rattle.listing.specs.Listing.{entriesOf, headOf}
 use Rattle.writer.specs.Writing.{notWritten, writtenOf}
 use Rattle.writer.specs.declared.Written.{Written}
 use Rattle.listing_reader.specs.declared.ReadBack.{ReadBack}
+use Rattle.listing_reader.specs.declared.line.Shape.{Shape}
 
 -- ---- a line
 
@@ -54,13 +56,17 @@ abbrev pub isShaped : Bool → List (List ℕ) → Bool
 isShaped ended fs =
     ended && (isNumber (addressIn fs) && (leb 2 (length fs) && (not (isKnown fs) || hasFields (rowNamed (nameIn fs)) (numbersIn fs))))
 
--- "61 .., 62 address not counting up from 0, 63 unknown name or `BAD`, then the writer's own numbers"
+-- "61 .., 62 address not counting up from 0, 63 unknown name or `BAD`"
+abbrev pub shapeNumber : ℕ → Bool → List (List ℕ) → ℕ
+shapeNumber a ended fs =
+    not (isShaped ended fs) gives 61
+    else not (eqb (value (addressIn fs)) a) gives 62
+    else not (isKnown fs) gives 63
+    else 0
+
+-- "then the writer's own numbers"
 abbrev pub fieldsRead : Rules → ℕ → Bool → List (List ℕ) → Written
-fieldsRead rules a ended fs =
-    pick (not (isShaped ended fs)) (notWritten 61)
-    (pick (not (eqb (value (addressIn fs)) a)) (notWritten 62)
-    (pick (not (isKnown fs)) (notWritten 63)
-    (writtenOf rules (wishIn fs))))
+fieldsRead rules a ended fs = pick (filled (shapeNumber a ended fs)) (notWritten (shapeNumber a ended fs)) (writtenOf rules (wishIn fs))
 
 -- a line that counts as the one of address a
 unfoldable pub lineRead : Rules → ℕ → Row → Written
@@ -85,13 +91,19 @@ unfoldable pub toldOf : Rules → ℕ → ℕ → List Row → ReadBack
 toldOf rules room a [] = record { number = 0; line = 0; count = a }
 toldOf rules room a (row ∷ rows) = pick (eqb (lineNumber rules room a row) 0) (toldOf rules room (a + 1) rows) (refusedAt (lineNumber rules room a row) (a + 2))
 
--- "60 header, its line feed included"
-abbrev pub isHeaded : List ℕ → Bool
-isHeaded text = sameText (take (length headerText) text) headerText
+-- "60 header, its line feed included": a text of an edition
+abbrev pub isEdition : ℕ → List ℕ → Bool
+isEdition edition text = sameText (take (length (headOf edition)) text) (headOf edition)
 
--- the lines behind the header
+-- the lines behind the header of an edition
+abbrev pub rowsBehind : ℕ → List ℕ → List Row
+rowsBehind edition text = rowsIn (drop (length (headOf edition)) text)
+
+abbrev pub isHeaded : List ℕ → Bool
+isHeaded text = isEdition 1 text
+
 abbrev pub bodyRows : List ℕ → List Row
-bodyRows text = rowsIn (drop (length headerText) text)
+bodyRows text = rowsBehind 1 text
 
 -- 60 is told of line 1, and else what the lines tell
 unfoldable pub readBack : Rules → ℕ → List ℕ → ReadBack
@@ -111,9 +123,18 @@ pub record ReadsBack (rules : Rules) (text before after : List ℕ) (r : ReadBac
 abbrev pub fieldCount : ℕ → ℕ
 fieldCount row = length (entriesOf (instructionOf row [])) - 1
 
--- a line with a known name and these fields behind it
-abbrev pub knownRead : Rules → ℕ → ℕ → ℕ → List (List ℕ) → Written
-knownRead rules row address a fs =
-    pick (not (hasFields row fs)) (notWritten 61)
-    (pick (not (eqb address a)) (notWritten 62)
-    (writtenOf rules (instructionOf row (map value fs))))
+-- what is wrong with a line that has a known name and these fields behind it
+abbrev pub knownNumber : ℕ → ℕ → ℕ → List (List ℕ) → ℕ
+knownNumber row address a ns = not (hasFields row ns) gives 61 else not (eqb address a) gives 62 else 0
+
+-- and, where nothing is, what its fields say
+pub record KnownShape (row address a : ℕ) (ns : List (List ℕ)) (before after : List ℕ) (r : ℕ) : Type 0 where
+  pub number : r ≡ knownNumber row address a ns
+  pub values : r ≡ 0 → after ≡ put before 0 (map value ns)
+
+-- what is told of a line before the writer is asked: what is wrong with it, or the row of its name, where its name starts, and what its fields say
+pub record Shaped (a : ℕ) (fs : List (List ℕ)) (before after : List ℕ) (r : Shape) : Type 0 where
+  pub number : r .number ≡ shapeNumber a true fs
+  pub row : r .number ≡ 0 → r .row ≡ rowNamed (nameIn fs)
+  pub from : r .number ≡ 0 → r .from ≡ length (addressIn fs) + 1
+  pub values : r .number ≡ 0 → after ≡ put before 0 (map value (numbersIn fs))

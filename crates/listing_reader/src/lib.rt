@@ -7,8 +7,8 @@ ghost use lib.ListN.{length, drop};
 ghost use Rattle.instruction.specs.Bits.{pick};
 ghost use Rattle.buffer.specs.Put.{put};
 ghost use Rattle.text.specs.Cut.{lineFeed, placeOf, rowAt, rowsIn};
-ghost use Rattle.listing.specs.Listing.{headerText};
-ghost use Rattle.listing_reader.specs.ReadBack.{isHeaded, lineNumber, toldOf, wordIn, ReadsBack};
+ghost use Rattle.listing.specs.Listing.{headOf};
+ghost use Rattle.listing_reader.specs.ReadBack.{isEdition, lineNumber, toldOf, wordIn, ReadsBack};
 use crate::line::read_line;
 use instruction::Rules;
 use listing::Listing;
@@ -16,7 +16,7 @@ use listing::put_header;
 use text::find;
 use text::same;
 
-mod line;
+pub mod line;
 
 // What is told of a text: 0 and how many words it has, or the number of a refusal and its line.
 pub struct ReadBack {
@@ -43,12 +43,13 @@ impl ReadBack {
     pub const FIELDS: usize = 6;
 }
 
-// Where the lines begin: behind the header, or 0 where the text does not begin with it.
-fn header_end(text: &[u8]) -> usize
-    ensures { λ r. ⌜ r ≡ pick (isHeaded (now (text .entry))) (length headerText) 0 ⌝ }
+// Where the lines of an edition begin: behind its header, or 0 where the text does not begin with it.
+pub fn header_end(text: &[u8], edition: u64) -> usize
+    requires { ⌜ edition < 10 ⌝ }
+    ensures { λ r. ⌜ r ≡ pick (isEdition edition (now (text .entry))) (length (headOf edition)) 0 ⌝ }
 {
     let mut page = [0u8; Listing::HEADER];
-    let n = put_header(&mut page);
+    let n = put_header(&mut page, edition);
     if text.len() < n {
         return 0;
     }
@@ -126,7 +127,7 @@ fn fill(text: &[u8], from: usize, words: &mut [u64], rules: Rules)
 pub fn read_listing(text: &[u8], rules: Rules, words: &mut [u64]) -> ReadBack
     ensures { λ r. ⌜ ReadsBack rules (now (text .entry)) (now (words .entry)) (now (words .exit)) r ⌝ }
 {
-    let from = header_end(text);
+    let from = header_end(text, Listing::EDITION);
     if from == 0 {
         return ReadBack {
             number: ReadBack::NO_HEADER,

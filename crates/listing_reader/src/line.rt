@@ -6,10 +6,9 @@ ghost use Prim.Native.Nat.{_≤_, _<_};
 ghost use lib.Dec.{eqb};
 ghost use lib.ListN.{length};
 ghost use Rattle.instruction.specs.Bits.{pick};
-ghost use Rattle.text.specs.Cut.{fieldsAfter};
-ghost use Rattle.writer.specs.Writing.{notWritten};
+ghost use Rattle.text.specs.Cut.{tab, cut, fieldsAfter};
 ghost use Rattle.names.specs.Names.{nameCount};
-ghost use Rattle.listing_reader.specs.ReadBack.{fieldCount, knownRead, lineRead};
+ghost use Rattle.listing_reader.specs.ReadBack.{fieldCount, KnownShape, Shaped, lineRead};
 use crate::ReadBack;
 use fields::read_numbers;
 use instruction::Body;
@@ -24,7 +23,7 @@ use writer::Written;
 use writer::write;
 
 // How many fields the listing shows behind a name.
-fn field_count(row: u64) -> usize
+pub fn field_count(row: u64) -> usize
     ensures { λ r. ⌜ r ≡ fieldCount row ⌝ }
 {
     match row {
@@ -45,59 +44,89 @@ fn field_count(row: u64) -> usize
     }
 }
 
-fn refused(number: u64) -> Written
-    ensures { λ r. ⌜ r ≡ notWritten number ⌝ }
-{
-    Written { number, word: 0 }
+// What a line is before the writer is asked: what is wrong with it, or the row of its name and where that starts.
+pub struct Shape {
+    pub number: u64,
+    pub row: u64,
+    pub from: usize,
 }
 
-// A line whose name is known, from the end of the name on.
-fn read_known(line: &[u8], from: usize, row: u64, address: u64, a: u64, rules: Rules) -> Written
-    requires { ⌜ (from ≤ length (now line)) × (row < nameCount) ⌝ }
-    ensures { λ r. ⌜ r ≡ knownRead rules row address a (fieldsAfter from (now (line .entry))) ⌝ }
+impl Shape {
+    fn refused(number: u64) -> Shape
+        ensures { λ r. ⌜ r ≡ record { number = number; row = 0; from = 0 } ⌝ }
+    {
+        Shape {
+            number,
+            row: 0,
+            from: 0,
+        }
+    }
+}
+
+// A line whose name is known, from the end of the name on; what its fields say is laid from the front.
+fn known_shape(line: &[u8], end: usize, row: u64, address: u64, a: u64, values: &mut [u64]) -> u64
+    requires { ⌜ (end ≤ length (now line)) × (row < nameCount) × (6 ≤ length (now values)) ⌝ }
+    ensures { λ r. ⌜ KnownShape row address a (fieldsAfter end (now (line .entry))) (now (values .entry)) (now (values .exit)) r ⌝ }
 {
-    let mut values = [0u64; ReadBack::FIELDS];
-    if !read_numbers(line, from, field_count(row), &mut values) {
-        return refused(ReadBack::NO_LINE);
+    if !read_numbers(line, end, field_count(row), values) {
+        return ReadBack::NO_LINE;
     }
     if address != a {
-        return refused(ReadBack::WRONG_ADDRESS);
+        return ReadBack::WRONG_ADDRESS;
     }
-    let body = body_of(row, values[2], values[3], values[4], values[5]);
-    let i = Instruction {
-        engine: values[0],
-        write: values[1],
-        body,
-    };
-    write(i, rules)
+    0
 }
 
 // A line whose name is not known.
-fn read_unknown(address: u64, a: u64) -> Written
-    ensures { λ r. ⌜ r ≡ pick (not (eqb address a)) (notWritten 62) (notWritten 63) ⌝ }
+fn unknown_shape(address: u64, a: u64) -> u64
+    ensures { λ r. ⌜ r ≡ pick (not (eqb address a)) 62 63 ⌝ }
 {
     if address != a {
-        return refused(ReadBack::WRONG_ADDRESS);
+        return ReadBack::WRONG_ADDRESS;
     }
-    refused(ReadBack::NO_NAME)
+    ReadBack::NO_NAME
+}
+
+// The line of the word at address a, as far as it can be told without the writer.
+pub fn line_shape(line: &[u8], a: u64, values: &mut [u64]) -> Shape
+    requires { ⌜ 6 ≤ length (now values) ⌝ }
+    ensures { λ r. ⌜ Shaped a (cut tab (now (line .entry))) (now (values .entry)) (now (values .exit)) r ⌝ }
+{
+    let address = number_from(line, 0);
+    if !address.plain {
+        return Shape::refused(ReadBack::NO_LINE);
+    }
+    if line.len() <= address.end {
+        return Shape::refused(ReadBack::NO_LINE);
+    }
+    let from = address.end + 1;
+    let end = find(line, from, b'\t');
+    let row = named(&line[from..end]);
+    if row < Names::COUNT {
+        let number = known_shape(line, end, row, address.value, a, values);
+        return Shape { number, row, from };
+    }
+    let number = unknown_shape(address.value, a);
+    Shape::refused(number)
 }
 
 // The line of the word at address a.
 pub fn read_line(line: &[u8], a: u64, rules: Rules) -> Written
     ensures { λ r. ⌜ r ≡ lineRead rules a (record { bytes = now (line .entry); ended = true }) ⌝ }
 {
-    let address = number_from(line, 0);
-    if !address.plain {
-        return refused(ReadBack::NO_LINE);
+    let mut values = [0u64; ReadBack::FIELDS];
+    let shape = line_shape(line, a, &mut values);
+    if shape.number != 0 {
+        return Written {
+            number: shape.number,
+            word: 0,
+        };
     }
-    if line.len() <= address.end {
-        return refused(ReadBack::NO_LINE);
-    }
-    let from = address.end + 1;
-    let end = find(line, from, b'\t');
-    let row = named(&line[from..end]);
-    if row < Names::COUNT {
-        return read_known(line, end, row, address.value, a, rules);
-    }
-    read_unknown(address.value, a)
+    let body = body_of(shape.row, values[2], values[3], values[4], values[5]);
+    let i = Instruction {
+        engine: values[0],
+        write: values[1],
+        body,
+    };
+    write(i, rules)
 }

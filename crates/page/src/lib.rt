@@ -8,7 +8,7 @@ ghost use Rattle.buffer.specs.Put.{Fits, Put};
 ghost use Rattle.text.specs.Cut.{tab};
 ghost use Rattle.text.specs.Line.{number, digit, decimal, restText};
 
-fn digit_count(n: u64) -> usize
+pub fn digit_count(n: u64) -> usize
     ensures { λ r. ⌜ r ≡ length (decimal n) ⌝ }
 {
     let mut rest = n;
@@ -44,7 +44,7 @@ pub fn put_number(page: &mut [u8], at: usize, n: u64) -> usize
     end
 }
 
-fn put_byte(page: &mut [u8], at: usize, b: u8) -> usize
+pub fn put_byte(page: &mut [u8], at: usize, b: u8) -> usize
     requires { ⌜ Fits (b ∷ []) (now page) at ⌝ }
     ensures { λ r. ⌜ Put (b ∷ []) (now (page .entry)) at (now (page .exit)) r ⌝ }
 {

@@ -5,7 +5,6 @@ use instruction::Rules;
 use instruction::WordAddress;
 use libc::STDOUT_FILENO;
 use listing::Listing;
-use listing_reader::ReadBack;
 use told::say;
 use told::say_number;
 use told::say_pair;
@@ -43,27 +42,31 @@ pub fn say_listing(words: &[u64], rules: Rules) {
     say_words(words, rules);
 }
 
-// The line of a listing that has the word at an address: the header is line 1.
-pub fn line_of(address: u64) -> u64 {
-    std::num::wrapping_add_u64(address, ReadBack::FIRST_LINE)
+// The line of the word at an address, where a listing had the words: one for each, and the one behind the last.
+pub fn line_of(lines: &[u64], address: u64) -> u64 {
+    let a = address as usize;
+    if lines.len() <= a {
+        return 0;
+    }
+    lines[a]
 }
 
 // Where the words came from a listing, its line, too.
-fn say_line_of(address: u64, before: &[u8], listed: bool) {
-    if listed {
+fn say_line_of(address: u64, before: &[u8], lines: &[u64]) {
+    if lines.len() != 0 {
         say(before);
         say(b"line ");
-        say_number(line_of(address));
+        say_number(line_of(lines, address));
     }
     say(b"\n");
 }
 
 // A word past the last is told with the last.
-fn say_past(words: &[u64], listed: bool, rules: Rules) {
+fn say_past(words: &[u64], lines: &[u64], rules: Rules) {
     say(b", past the last, which is");
     if words.len() != 0 {
         let last = words.len() - 1;
-        say_line_of(last as u64, b" ", listed);
+        say_line_of(last as u64, b" ", lines);
         say_word(last as u64, words[last], rules);
     }
 }
@@ -77,7 +80,7 @@ pub fn say_bit(refusal: Refusal) {
 }
 
 // Where a refusal is, its bit, and the listing's line of the word there.
-pub fn say_place(words: &[u64], refusal: Refusal, place: WordAddress, listed: bool, rules: Rules) {
+pub fn say_place(words: &[u64], lines: &[u64], refusal: Refusal, place: WordAddress, rules: Rules) {
     if words.len() == 0 {
         say(b"\n");
         return;
@@ -87,10 +90,10 @@ pub fn say_place(words: &[u64], refusal: Refusal, place: WordAddress, listed: bo
     say_bit(refusal);
     let at = place.0 as usize;
     if words.len() <= at {
-        say_past(words, listed, rules);
+        say_past(words, lines, rules);
         return;
     }
-    say_line_of(place.0, b", ", listed);
+    say_line_of(place.0, b", ", lines);
     say_word(place.0, words[at], rules);
 }
 

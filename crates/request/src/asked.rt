@@ -19,6 +19,10 @@ pub const WORDS: u64 = 4;
 
 pub const BLOCK: u64 = 5;
 
+pub const LABELS: u64 = 6;
+
+pub const ADDRESSES: u64 = 7;
+
 const HEX: u64 = 1;
 
 const WAVE: u64 = 2;
@@ -39,6 +43,8 @@ const OUT: u64 = 9;
 
 const FIRMWARE: u64 = 10;
 
+const LABELLED: u64 = 11;
+
 // An option that waits for its value is `pending`. A file is told by its place among the arguments; 0 is none. Of several, `file`
 // is the first.
 pub struct Asked {
@@ -51,6 +57,7 @@ pub struct Asked {
     pub out: usize,
     pub hex: bool,
     pub json: bool,
+    pub labelled: bool,
     pub has_wave: bool,
     pub wave: QuadSamples,
     pub rules: Rules,
@@ -58,6 +65,17 @@ pub struct Asked {
     pub budget: u64,
     pub room: u64,
     pub good: bool,
+}
+
+// The commands that move a listing from one edition to the other.
+fn move_named(text: &[u8]) -> u64 {
+    if same(text, b"labels") {
+        return LABELS;
+    }
+    if same(text, b"addresses") {
+        return ADDRESSES;
+    }
+    0
 }
 
 fn command_named(text: &[u8]) -> u64 {
@@ -76,7 +94,7 @@ fn command_named(text: &[u8]) -> u64 {
     if same(text, b"block") {
         return BLOCK;
     }
-    0
+    move_named(text)
 }
 
 // The options with a number after them.
@@ -96,12 +114,24 @@ fn counted_option(text: &[u8]) -> u64 {
     0
 }
 
-fn option_named(text: &[u8]) -> u64 {
+// The options that have no value after them.
+fn lone_option(text: &[u8]) -> u64 {
     if same(text, b"--hex") {
         return HEX;
     }
     if same(text, b"--json") {
         return JSON;
+    }
+    if same(text, b"--labels") {
+        return LABELLED;
+    }
+    0
+}
+
+fn option_named(text: &[u8]) -> u64 {
+    let alone = lone_option(text);
+    if alone != 0 {
+        return alone;
     }
     if same(text, b"--messages") {
         return MESSAGES;
@@ -133,7 +163,7 @@ fn complain_of_option(option: u64) {
 
 // The options that have no value after them.
 fn is_alone(option: u64) -> bool {
-    (option == HEX) | (option == JSON)
+    (option == HEX) | (option == JSON) | (option == LABELLED)
 }
 
 fn needs_wave(command: u64) -> bool {
@@ -145,15 +175,26 @@ fn makes_words(command: u64) -> bool {
     (command == WORDS) | (command == BLOCK)
 }
 
-// Whether a command has an option. Words that are made may go to a file, and every other command reads words in two ways and has two ways
-// to tell its answer. All but the block's read words for a firmware, some need a waveform memory, and the rest are of a run.
+fn moves(command: u64) -> bool {
+    (command == LABELS) | (command == ADDRESSES)
+}
+
+// The commands whose answer may go to a file.
+fn goes_out(command: u64) -> bool {
+    makes_words(command) | moves(command)
+}
+
+// Whether a command has an option. Words that are made and listings that are moved may go to a file, and every other command reads words in
+// two ways and has two ways to tell its answer. Words are read for a firmware but from a block, some commands need a waveform memory, the
+// list alone is told with labels, and the rest are of a run.
 fn has_option(command: u64, option: u64) -> bool {
     match option {
         0 => false,
-        FIRMWARE => command != BLOCK,
+        FIRMWARE => (command != BLOCK) & !moves(command),
         WAVE => needs_wave(command),
-        OUT => makes_words(command),
-        _ => !makes_words(command) & (is_alone(option) | (command == RUN)),
+        OUT => goes_out(command),
+        LABELLED => command == LIST,
+        _ => !goes_out(command) & (is_alone(option) | (command == RUN)),
     }
 }
 
@@ -189,6 +230,7 @@ impl Asked {
             out: 0,
             hex: false,
             json: false,
+            labelled: false,
             has_wave: false,
             wave: Sequence::WAVE,
             rules: Rules::CURRENT,
@@ -241,6 +283,7 @@ impl Asked {
         if is_alone(option) {
             self.hex = self.hex | (option == HEX);
             self.json = self.json | (option == JSON);
+            self.labelled = self.labelled | (option == LABELLED);
             return self;
         }
         self.pending = option;
@@ -353,7 +396,12 @@ impl Asked {
         self.bad()
     }
 
-    // What is still missing when there are no more arguments.
+    fn without_either(self) -> Asked {
+        complain(b"aps2: --labels or --json, not both: JSON tells the addresses of jumps\n");
+        self.bad()
+    }
+
+    // What is still missing, or too much, when there are no more arguments.
     fn whole(self) -> Asked {
         if !self.good {
             return self;
@@ -366,6 +414,9 @@ impl Asked {
         }
         if needs_wave(self.command) & !self.has_wave {
             return self.without_wave();
+        }
+        if self.labelled & self.json {
+            return self.without_either();
         }
         self
     }

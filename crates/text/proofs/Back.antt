@@ -11,11 +11,11 @@ use borrow.Author.Tests.{lt-ltb, le-ltb, ltb-true, ne-eqb}
 use lib.Dec.{ltb, eqb}
 use lib.ListN.{length, drop, length-append, length-drop}
 use Rattle.instruction.specs.Bits.{pick}
-use Rattle.text.specs.Cut.{tab, lineFeed, cut, before, placeOf, rowsIn}
+use Rattle.text.specs.Cut.{tab, lineFeed, cut, before, placeOf, rowsIn, has, joined}
 use Rattle.text.specs.Number.{isDigit, allDigits, plain, value, numbers, isNumber, counted, uncounted, fieldTo, countedTo, countedThen}
 use Rattle.text.specs.declared.Counted.{Counted}
 use Rattle.text.specs.Line.{Entry, name, number, letters, decimal, entryText, lineText, Line}
-use Rattle.text.proofs.Cuts.{has, has-whole, before-piece, joined, noneHas, cut-joined, found-has, found-behind}
+use Rattle.text.proofs.Cuts.{has-whole, before-piece, noneHas, cut-joined, found-has, found-behind}
 use Rattle.text.proofs.Decimals.{decimal-value, decimal-digits, decimal-plain, plain-decimal}
 use Rattle.text.proofs.Rows.{rows-line}
 use Rattle.text.proofs.Bools.{both, joins, never}

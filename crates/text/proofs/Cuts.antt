@@ -11,26 +11,15 @@ use lib.Dec.{eqb}
 use lib.ListN.{length, take, drop, getD, drop-of-length-le, length-append, length-drop}
 use lib.Seq.{drop-cons, drop-drop}
 use Rattle.instruction.specs.Bits.{pick}
-use Rattle.text.specs.Cut.{before, onto, cut, placeOf}
+use Rattle.text.specs.Cut.{onto, cut, joined, has, before, placeOf}
 use Rattle.text.proofs.Bools.{both, never}
 
 -- ---- what is said of a text and a byte
-
--- whether it is in it
-abbrev pub has : ℕ → List ℕ → Bool
-has x [] = false
-has x (b ∷ bs) = eqb b x || has x bs
 
 -- what stands behind the first of it
 abbrev pub behind : ℕ → List ℕ → List ℕ
 behind x [] = []
 behind x (b ∷ bs) = pick (eqb b x) bs (behind x bs)
-
--- pieces with it between them
-abbrev pub joined : ℕ → List (List ℕ) → List ℕ
-joined x [] = []
-joined x (p ∷ []) = p
-joined x (p ∷ q ∷ ps) = p ++ (x ∷ joined x (q ∷ ps))
 
 -- none of the pieces has it
 abbrev pub noneHas : ℕ → List (List ℕ) → Bool

@@ -10,8 +10,8 @@ use borrow.Author.Tests.{lt-ltb, le-ltb}
 use lib.ListN.{length, take, drop, drop-of-length-le, length-drop}
 use lib.Seq.{take-all}
 use Rattle.instruction.specs.Bits.{pick}
-use Rattle.text.specs.Cut.{tab, lineFeed, cut, placeOf, Row, rowsOf, rowsIn, rowAt, fieldsAfter}
-use Rattle.text.proofs.Cuts.{has, behind, cut-first, cut-piece, cut-found, cut-last-found}
+use Rattle.text.specs.Cut.{tab, lineFeed, cut, placeOf, Row, rowsOf, rowsIn, rowAt, fieldsAfter, has}
+use Rattle.text.proofs.Cuts.{behind, cut-first, cut-piece, cut-found, cut-last-found}
 
 abbrev row : List ℕ → Bool → Row
 row bs e = record { bytes = bs; ended = e }

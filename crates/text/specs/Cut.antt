@@ -1,8 +1,8 @@
 -- A text in bytes, cut at a byte: at line feeds into lines, at tabs into fields.
 -- A line knows whether its line feed is there; nothing stands behind the last line feed of a text that is whole.
 use Prim.Native.Nat.{ℕ, _+_, _-_}
-use mathlib.Core.Bool.{Bool, true, false, _&&_}
-use mathlib.Core.List.{List, [], _∷_}
+use mathlib.Core.Bool.{Bool, true, false, _||_, _&&_}
+use mathlib.Core.List.{List, [], _∷_, _++_}
 use lib.Dec.{ltb, eqb}
 use lib.ListN.{length, take, drop}
 use Rattle.instruction.specs.Bits.{pick}
@@ -24,6 +24,12 @@ onto b (p ∷ ps) = (b ∷ p) ∷ ps
 abbrev pub cut : ℕ → List ℕ → List (List ℕ)
 cut x [] = [] ∷ []
 cut x (b ∷ bs) = pick (eqb b x) ([] ∷ cut x bs) (onto b (cut x bs))
+
+-- pieces with a byte between them
+abbrev pub joined : ℕ → List (List ℕ) → List ℕ
+joined x [] = []
+joined x (p ∷ []) = p
+joined x (p ∷ q ∷ ps) = p ++ (x ∷ joined x (q ∷ ps))
 
 -- ---- lines and fields
 
@@ -59,6 +65,11 @@ abbrev pub startsWith : List ℕ → List ℕ → Bool
 startsWith [] bs = true
 startsWith (x ∷ xs) [] = false
 startsWith (x ∷ xs) (b ∷ bs) = eqb b x && startsWith xs bs
+
+-- whether a number is one of a list's
+abbrev pub has : ℕ → List ℕ → Bool
+has x [] = false
+has x (b ∷ bs) = eqb b x || has x bs
 
 -- what stands before the first of a byte, all where there is none
 abbrev pub before : ℕ → List ℕ → List ℕ

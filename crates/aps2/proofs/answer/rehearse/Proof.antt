@@ -8,7 +8,7 @@ use Rattle.aps2.proofs.answer.rehearse.Statement.{statement}
 use Rattle.aps2.proofs.answer.rehearse.Tie as tie
 
 cast-run : tie.Need-cast-run
-cast-run c = omega (arith, and-le-r (c .before .before .before .before .args .asked .triggers) 4294967295)
+cast-run c = omega (arith, and-le-r (c .before .before .before .before .before .args .asked .triggers) 4294967295)
 
 run-requires : tie.Need-run-requires
 run-requires c κs = search needs

@@ -9,7 +9,7 @@ slice-relend-prefix-rehearse : tie.Need-slice-relend-prefix-rehearse
 slice-relend-prefix-rehearse c = search needs
 
 slice-aggregate-rehearse : tie.Need-slice-aggregate-rehearse
-slice-aggregate-rehearse c = sym (length-take-le (c .before .before .before .before .before .args .asked .room) (c .before .before .before .before .before .args .trace .now) (c .before .if1 .taken))
+slice-aggregate-rehearse c = sym (length-take-le (c .before .before .before .before .before .before .args .asked .room) (c .before .before .before .before .before .before .args .trace .now) (c .before .if1 .taken))
 
 rehearse-requires : tie.Need-rehearse-requires
 rehearse-requires c κs = search needs

@@ -1,73 +1,75 @@
--- Address, name, and what is behind it.
+use Rattle.listing_reader.proofs.Fields.{read-refused, read-written}
 use mathlib.Core.Path.{_∙_}
-use native.Mathlib.Omega.{arith}
 use borrow.Author.Needs.{needs}
-use borrow.Author.Tests.{not-true, not-false}
-use Rattle.listing_reader.proofs.Fields.{line-not, line-alone, line-known, line-unknown, name-inside, name-order}
 use Rattle.listing_reader.proofs.line.read_line.Statement.{statement}
 use Rattle.listing_reader.proofs.line.read_line.Tie as tie
+use Rattle.listing_reader.proofs.line.read_line.Reads as reads
+use Rattle.listing_reader.proofs.line.read_line.Lts as lts
+use Rattle.laid.proofs.fields.body_of.Reads as body-of-reads
+use Rattle.listing_reader.proofs.line.line_shape.Reads as line-shape-reads
+use Rattle.writer.proofs.write.Reads as write-reads
 
-number-from-requires : tie.Need-number-from-requires
-number-from-requires c κs = omega arith
+-- src/line.rt:118:37
+slice-aggregate-line-shape : tie.Need-slice-aggregate-line-shape
+slice-aggregate-line-shape c = search needs
 
-refused-requires : tie.Need-refused-requires
-refused-requires c κs = search needs
+-- src/line.rt:118:9
+line-shape-requires : tie.Need-line-shape-requires
+line-shape-requires c κs = search needs
 
+-- src/line.rt:120:9
 returns : tie.Need-returns
-returns c = c .refused .ensures ∙ line-not (c .before .before .before .before .before .args .rules) (c .before .before .before .before .before .args .line .now) (c .before .before .before .before .before .args .a) (c .before .before .before .number-from .ensures) (not-true _ (c .before .if1 .taken))
+returns c = read-refused (c .before .before .before .before .before .before .args .rules) (c .before .before .before .before .before .before .args .line .now) (c .before .before .before .before .before .before .args .a) (c .before .before .before .line-shape .ensures) (c .if1 .taken)
 
-refused-requires-2 : tie.Need-refused-requires-2
-refused-requires-2 c κs = search needs
+-- src/line.rt:125:35
+array-read-body-of : tie.Need-array-read-body-of
+array-read-body-of c = search needs
 
+-- src/line.rt:125:46
+array-read-body-of-2 : tie.Need-array-read-body-of-2
+array-read-body-of-2 c = search needs
+
+-- src/line.rt:125:57
+array-read-body-of-3 : tie.Need-array-read-body-of-3
+array-read-body-of-3 c = search needs
+
+-- src/line.rt:125:68
+array-read-body-of-4 : tie.Need-array-read-body-of-4
+array-read-body-of-4 c = search needs
+
+-- src/line.rt:125:9
+body-of-requires : tie.Need-body-of-requires
+body-of-requires c κs = search needs
+
+-- src/line.rt:127:17
+array-read-t13 : tie.Need-array-read-t13
+array-read-t13 c = search needs
+
+-- src/line.rt:128:16
+array-read-t22 : tie.Need-array-read-t22
+array-read-t22 c = search needs
+
+-- src/line.rt:131:5
+write-requires : tie.Need-write-requires
+write-requires c κs = search needs
+
+-- src/line.rt:114:1
 returns-2 : tie.Need-returns-2
-returns-2 c = c .refused2 .ensures ∙ line-alone (c .before .before .before .before .before .before .before .args .rules) (c .before .before .before .before .before .before .before .args .line .now) (c .before .before .before .before .before .before .before .args .a) (c .before .before .before .before .before .number-from .ensures) (not-false _ (c .before .before .before .if1 .left)) (c .before .if2 .taken)
-
-add-from : tie.Need-add-from
-add-from c = omega (arith, c .before .if2 .left, c .before .before .before .before .before .before .before .good)
-
-find-requires : tie.Need-find-requires
-find-requires c κs = search needs
-
-sub-named : tie.Need-sub-named
-sub-named c = omega (arith, name-order (c .before .before .before .before .before .before .before .before .args .rules) (c .before .before .before .before .before .before .before .before .args .line .now) (c .before .before .before .before .before .before .before .before .args .a) (c .before .before .before .before .before .before .number-from .ensures) (not-false _ (c .before .before .before .before .if1 .left)) (c .before .before .if2 .left) (c .find .ensures))
-
-part-named-start : tie.Need-part-named-start
-part-named-start c = omega (arith, name-order (c .before .before .before .before .before .before .before .before .args .rules) (c .before .before .before .before .before .before .before .before .args .line .now) (c .before .before .before .before .before .before .before .before .args .a) (c .before .before .before .before .before .before .number-from .ensures) (not-false _ (c .before .before .before .before .if1 .left)) (c .before .before .if2 .left) (c .find .ensures))
-
-part-named-end : tie.Need-part-named-end
-part-named-end c = omega (arith, name-inside (c .before .before .before .before .before .before .before .before .args .rules) (c .before .before .before .before .before .before .before .before .args .line .now) (c .before .before .before .before .before .before .before .before .args .a) (c .before .before .before .before .before .before .number-from .ensures) (not-false _ (c .before .before .before .before .if1 .left)) (c .before .before .if2 .left) (c .find .ensures), name-order (c .before .before .before .before .before .before .before .before .args .rules) (c .before .before .before .before .before .before .before .before .args .line .now) (c .before .before .before .before .before .before .before .before .args .a) (c .before .before .before .before .before .before .number-from .ensures) (not-false _ (c .before .before .before .before .if1 .left)) (c .before .before .if2 .left) (c .find .ensures))
-
-named-requires : tie.Need-named-requires
-named-requires c κs = search needs
-
-read-known-requires : tie.Need-read-known-requires
-read-known-requires c κs = (name-inside (c .before .before .before .before .before .before .before .before .before .before .before .args .rules) (c .before .before .before .before .before .before .before .before .before .before .before .args .line .now) (c .before .before .before .before .before .before .before .before .before .before .before .args .a) (c .before .before .before .before .before .before .before .before .before .number-from .ensures) (not-false _ (c .before .before .before .before .before .before .before .if1 .left)) (c .before .before .before .before .before .if2 .left) (c .before .before .before .find .ensures), c .if3 .taken)
-
-returns-3 : tie.Need-returns-3
-returns-3 c = c .read-known .ensures ∙ line-known (c .before .before .before .before .before .before .before .before .before .before .before .before .args .rules) (c .before .before .before .before .before .before .before .before .before .before .before .before .args .line .now) (c .before .before .before .before .before .before .before .before .before .before .before .before .args .a) (c .before .before .before .before .before .before .before .before .before .before .number-from .ensures) (not-false _ (c .before .before .before .before .before .before .before .before .if1 .left)) (c .before .before .before .before .before .before .if2 .left) (c .before .before .before .before .find .ensures) (c .before .before .named .ensures) (c .before .if3 .taken)
-
-read-unknown-requires : tie.Need-read-unknown-requires
-read-unknown-requires c κs = search needs
-
-returns-4 : tie.Need-returns-4
-returns-4 c = c .read-unknown .ensures ∙ line-unknown (c .before .before .before .before .before .before .before .before .before .before .before .before .args .rules) (c .before .before .before .before .before .before .before .before .before .before .before .before .args .line .now) (c .before .before .before .before .before .before .before .before .before .before .before .before .args .a) (c .before .before .before .before .before .before .before .before .before .before .number-from .ensures) (not-false _ (c .before .before .before .before .before .before .before .before .if1 .left)) (c .before .before .before .before .before .before .if2 .left) (c .before .before .before .before .find .ensures) (c .before .before .named .ensures) (c .before .if3 .left)
+returns-2 c = c .write .ensures ∙ read-written (c .before .before .before .before .before .before .before .before .args .rules) (c .before .before .before .before .before .before .before .before .args .line .now) (c .before .before .before .before .before .before .before .before .args .a) (c .before .before .before .before .before .line-shape .ensures) (c .before .before .if1 .left) (c .before .body-of .ensures)
 
 pub read-line-spec : {M : Type 1} → statement M
 read-line-spec =
     tie.close
     (tie.spec
-    number-from-requires
-    refused-requires
+    slice-aggregate-line-shape
+    line-shape-requires
     returns
-    refused-requires-2
-    returns-2
-    add-from
-    find-requires
-    sub-named
-    part-named-start
-    part-named-end
-    named-requires
-    read-known-requires
-    returns-3
-    read-unknown-requires
-    returns-4)
+    array-read-body-of
+    array-read-body-of-2
+    array-read-body-of-3
+    array-read-body-of-4
+    body-of-requires
+    array-read-t13
+    array-read-t22
+    write-requires
+    returns-2)

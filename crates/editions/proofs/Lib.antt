@@ -1,0 +1,7 @@
+pub mod Glances
+pub mod Last
+pub mod One
+pub mod Rooms
+pub mod Two
+pub mod Unique
+pub mod Whole

@@ -1,0 +1,4 @@
+pub mod Firsts
+pub mod Packed
+pub mod Seeks
+pub mod Shapes

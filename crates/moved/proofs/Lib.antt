@@ -1,0 +1,13 @@
+pub mod Told
+pub mod Lines
+pub mod Words
+pub mod One
+pub mod There
+pub mod Named
+pub mod Labels
+pub mod Two
+pub mod Said
+pub mod Placed
+pub mod Trips
+pub mod Shown
+pub mod Listed

@@ -1,0 +1,9 @@
+pub mod Finishing
+pub mod Judging
+pub mod Keeping
+pub mod Laying
+pub mod Passing
+pub mod Placing
+pub mod Seeking
+pub mod Verdicts
+pub mod Weighing

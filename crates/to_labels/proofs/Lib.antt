@@ -1,0 +1,9 @@
+pub mod Feeds
+pub mod Judging
+pub mod Laying
+pub mod Marking
+pub mod Marks
+pub mod Naming
+pub mod Placing
+pub mod Taking
+pub mod Whole

@@ -1,0 +1,111 @@
+-- Laws of the whole text: judged, and then written whole or not at all.
+-- Assumes nothing.
+use Prim.Native.Nat.{ℕ, _+_, _≤_, _<_}
+use mathlib.Core.Path.{_≡_, sym, ap, ap₂, subst, _∙_}
+use mathlib.Core.Bool.{Bool, true, false}
+use mathlib.Core.List.{List, _++_}
+use native.Mathlib.Omega.{arith}
+use borrow.Author.Tests.{eq-eqb, ne-eqb, lt-ltb, le-ltb}
+use lib.Dec.{ltb, eqb}
+use lib.ListN.{length, drop, replicate, length-replicate, length-append}
+use Rattle.instruction.specs.Bits.{pick}
+use Rattle.buffer.specs.Put.{Fits, Put}
+use Rattle.text.specs.Cut.{Row, rowsIn}
+use Rattle.listing.specs.Listing.{headOf}
+use Rattle.listing_reader.specs.ReadBack.{isEdition, rowsBehind}
+use Rattle.listing_reader.proofs.Lines.{header-size, edition-is, edition-not}
+use Rattle.editions.specs.Moves.{refusedAt, moved, Moves, judgedOne, linesJudged, targetsIn, labelled, ToLabels}
+use Rattle.editions.specs.Told.{roomLeft, taken, RoomFor}
+use Rattle.editions.specs.declared.Moved.{Moved}
+use Rattle.editions.specs.declared.Room.{Room}
+use Rattle.editions.proofs.Whole.{refused-lines, passed-lines, moves-short, head-fits, lines-fit, moves-whole, head-room}
+use Rattle.to_labels.specs.Loops.{markCount, LabelsRoom, namedSize, labelsSize, LineCount, Ready, JudgesLines, labelledLines, Passed, labelledText}
+use Rattle.to_labels.specs.declared.Judged.{Judged}
+use Rattle.to_labels.proofs.Marks.{clear-marks}
+use Rattle.to_labels.proofs.Placing.{labelled-size}
+
+-- ---- written, or not
+
+module _ (n from : ℕ) (rows : List Row) (marks before : List ℕ) {room : Room} (p : Passed n from rows marks before room)
+    {known : List ℕ} {left : Room} (t : LabelsRoom n rows room known left) where
+  size : from + namedSize rows + labelsSize (targetsIn rows) 0 n ≡ length (labelledText rows)
+  size =
+      ap₂ (λ (h k : ℕ). h + namedSize rows + labelsSize (targetsIn rows) 0 k) (p .head) (p .known .all .lines .count)
+      ∙ omega (arith, length-append (headOf 2) (labelledLines rows), labelled-size (targetsIn rows) 0 rows)
+
+  told : RoomFor (length before) (length (labelledText rows)) left
+  told = subst (λ (k : ℕ). RoomFor (length before) k left) size (t .room (length before) (from + namedSize rows) (p .left))
+
+  pub finish-short : left .fits ≡ false → {r : Moved} → r ≡ refusedAt 64 0 → Moves (moved 0) (labelledText rows) before before r
+  finish-short e f = moves-short (headOf 2) (labelledLines rows) before told e f
+
+  module _ (e : left .fits ≡ true) where
+    pub finish-head : Fits (headOf 2) before 0
+    finish-head = head-fits (headOf 2) (labelledLines rows) before told e
+
+    module _ {headed : List ℕ} {start : ℕ} (h : Put (headOf 2) before 0 headed start) where
+      pub finish-lines : Fits (labelledLines rows) headed start
+      finish-lines = lines-fit (headOf 2) (labelledLines rows) before told e h
+
+      pub finish-whole : {after : List ℕ} {end : ℕ} → Put (labelledLines rows) headed start after end → Moves (moved 0) (labelledText rows) before after (moved end)
+      finish-whole w = moves-whole (headOf 2) (labelledLines rows) before told e h w
+
+-- ---- judged first
+
+module _ (text before : List ℕ) {from : ℕ} (e : from ≡ pick (isEdition 1 text) (length (headOf 1)) 0) where
+  module _ (z : from ≡ 0) where
+    judged-60 : linesJudged text ≡ refusedAt 60 1
+    unfolding linesJudged
+    judged-60 = ap (λ (t : Bool). pick t (judgedOne (length (rowsBehind 1 text)) 0 (rowsBehind 1 text)) (refusedAt 60 1)) (edition-not 1 text (omega arith) e z)
+
+    pub no-header : {r : Moved} → r ≡ refusedAt 60 1 → ToLabels text before before r
+    no-header f = refused-lines (linesJudged text) (labelled text) before (λ q. omega (arith, ap (λ (x : Moved). x .number) judged-60, q)) (f ∙ sym judged-60)
+
+  module _ (h : from ≡ 0 → ⊥) where
+    abbrev rows : List Row
+    rows = rowsIn (drop from text)
+
+    headed : (isEdition 1 text ≡ true) × (from ≡ length (headOf 1))
+    headed = edition-is 1 text (omega arith) e h
+
+    rows-are : rows ≡ rowsBehind 1 text
+    rows-are = ap (λ (k : ℕ). rowsIn (drop k text)) (headed .1)
+
+    text-is : labelledText rows ≡ labelled text
+    unfolding labelled
+    text-is = ap labelledText rows-are
+
+    module _ {n : ℕ} (c : LineCount rows n) where
+      judged-is : judgedOne n 0 rows ≡ linesJudged text
+      unfolding linesJudged
+      judged-is =
+          ap₂ (λ (k : ℕ) (ls : List Row). judgedOne k 0 ls) (c .count ∙ ap length rows-are) rows-are
+          ∙ sym (ap (λ (t : Bool). pick t (judgedOne (length (rowsBehind 1 text)) 0 (rowsBehind 1 text)) (refusedAt 60 1)) (headed .0))
+
+      pub lines-ready : Ready n rows (replicate markCount 0)
+      lines-ready = record { lines = c; size = length-replicate {A = ℕ} markCount 0; clear = clear-marks markCount 0 }
+
+      module _ {room : Room} {marks : List ℕ} {judged : Judged} (j : JudgesLines n rows room marks judged) where
+        pub bad-line : (judged .number ≡ 0 → ⊥) → {r : Moved} → r ≡ refusedAt (judged .number) (judged .line) → ToLabels text before before r
+        bad-line q f =
+            refused-lines (linesJudged text) (labelled text) before (λ z. q (ap (λ (x : Moved). x .number) told ∙ z)) (f ∙ told)
+          where
+            told : refusedAt (judged .number) (judged .line) ≡ linesJudged text
+            told = j .told ∙ judged-is
+
+        module _ (z : judged .number ≡ 0) where
+          well : judgedOne n 0 rows .number ≡ 0
+          well = sym (ap (λ (x : Moved). x .number) (j .told)) ∙ z
+
+          pub lines-passed : {start : Room} → start ≡ roomLeft (length before) → room ≡ taken from start → Passed n from rows marks before (judged .room)
+          lines-passed {start = start} s r =
+              record {
+                known = record { all = record { lines = c; well = well }; size = j .size; marked = j .marked z };
+                head = headed .1 ∙ header-size 1 (omega arith) ∙ sym (header-size 2 (omega arith));
+                left = j .room z (length before) from (head-room (length before) from s r);
+              }
+
+          pub good-lines : {after : List ℕ} {r : Moved} → Moves (moved 0) (labelledText rows) before after r → ToLabels text before after r
+          good-lines {after = after} {r = r} m =
+              passed-lines (linesJudged text) (labelled text) before (sym (ap (λ (x : Moved). x .number) judged-is) ∙ well)
+              (subst (λ (l : List ℕ). Moves (moved 0) l before after r) text-is m)
