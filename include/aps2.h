@@ -1,7 +1,7 @@
 /* The C interface of Oatneedle: what the archive libaps2_c.a holds.
    No function keeps anything, allocates, or reads past what it is lent; every input gets an answer.
    The buffers of one call must not overlap, and no pointer may be null, also where its length is 0 (any other will do then). A call needs
-   room on the stack: aps2_to_addresses 3,074 KiB, aps2_check 321 KiB, aps2_listing 169 KiB, aps2_to_labels 66 KiB, aps2_block 5 KiB,
+   room on the stack: aps2_to_addresses 4,354 KiB, aps2_to_labels 1,602 KiB, aps2_check 321 KiB, aps2_listing 169 KiB, aps2_block 5 KiB,
    the others 1 KiB. */
 #ifndef APS2_H
 #define APS2_H

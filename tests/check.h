@@ -56,6 +56,17 @@ static inline void family(const char *name)
     forget();
 }
 
+/* Ends the last family: every number that can be given was, and no other. */
+static inline void all_met(const char *name, int (*can)(uint64_t number))
+{
+    for (uint64_t n = 0; n < MET; n++) {
+        if ((ever[n] > 0) != can(n))
+            failed = 1, printf("  number %llu: %llu times\n", (unsigned long long)n, (unsigned long long)ever[n]);
+        compared += (uint64_t)can(n);
+    }
+    family(name);
+}
+
 /* Ends a family, which must have met the numbers that it is there for; the list ends with -1. */
 static inline void family_of(const char *name, const int *numbers)
 {

@@ -68,7 +68,7 @@ static uint64_t writes;
 /* How often each number was given in writing. */
 static uint64_t ever_writing[MET];
 
-static void all_met(void)
+static void all_met_both_ways(void)
 {
     for (int n = 0; n < MET; n++) {
         int both = n == 0 || n == 10 || (n >= 13 && n <= 19) || n == 24;
@@ -302,6 +302,6 @@ int main(void)
     writes = 0;
     write_edges();
     write_markers();
-    all_met();
+    all_met_both_ways();
     return 0;
 }

@@ -1,15 +1,13 @@
 -- Laws of a line at a glance, in either edition: its name, and where it or the last field starts.
 -- Assumes nothing.
-use Prim.Native.Nat.{ℕ, suc, _+_, _-_, _≤_, _<_}
-use mathlib.Core.Path.{_≡_, refl, sym, ap, ap₂, _∙_}
+use Prim.Native.Nat.{ℕ, _+_, _-_, _≤_, _<_}
+use mathlib.Core.Path.{_≡_, refl, sym, ap, _∙_}
 use mathlib.Core.Bool.{Bool, true, false, not}
-use mathlib.Core.List.{List, [], _∷_, _++_}
+use mathlib.Core.List.{List, _∷_}
 use native.Mathlib.Omega.{arith}
 use borrow.Author.Tests.{eq-eqb, ne-eqb}
-use lib.Dec.{eqb}
-use lib.ListN.{length, getD, take, drop, length-append, length-drop}
+use lib.ListN.{length, take, drop}
 use lib.Seq.{length-take-le}
-use Rattle.instruction.specs.Bits.{pick}
 use Rattle.text.specs.Cut.{tab, cut, placeOf, fieldsAfter}
 use Rattle.text.specs.Line.{letters}
 use Rattle.text.proofs.Alike.{same-text}
@@ -17,8 +15,8 @@ use Rattle.text.proofs.Bools.{never}
 use Rattle.text.proofs.Cuts.{found-order, found-inside}
 use Rattle.text.proofs.Rows.{after-last, after-next}
 use Rattle.names.specs.Names.{rowNamed}
-use Rattle.listing_reader.specs.ReadBack.{addressIn, nameIn}
-use Rattle.editions.specs.Editions.{jumps, jumpsOne, nameTwo, isLabelLine, jumpsTwo}
+use Rattle.listing_reader.specs.ReadBack.{addressIn}
+use Rattle.editions.specs.Editions.{jumps, jumpsOne, nameTwo, jumpsTwo}
 use Rattle.editions.specs.Told.{nowhere, finalFrom, KindOf, plainTwo, GlancesOne, GlancesTwo}
 use Rattle.editions.specs.declared.Kind.{Kind}
 use Rattle.editions.specs.declared.LineOne.{LineOne}

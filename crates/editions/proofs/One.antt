@@ -6,17 +6,16 @@ use mathlib.Core.Bool.{Bool, true, false, not, _&&_}
 use mathlib.Core.List.{List, [], _∷_, map}
 use native.Mathlib.Omega.{arith}
 use borrow.Author.Tests.{eq-eqb, ne-eqb, le-leb, lt-leb}
-use lib.Dec.{eqb, leb}
-use lib.ListN.{length, getD, replicate}
+use lib.Dec.{leb}
+use lib.ListN.{getD, replicate}
 use Rattle.instruction.specs.Bits.{pick}
 use Rattle.instruction.specs.Form.{filled}
-use Rattle.text.specs.Cut.{tab, cut}
 use Rattle.text.specs.Number.{value}
 use Rattle.fields.proofs.Gathered.{values-at}
-use Rattle.listing_reader.specs.ReadBack.{nameIn, numbersIn, shapeNumber, Shaped}
+use Rattle.listing_reader.specs.ReadBack.{numbersIn, shapeNumber, Shaped}
 use Rattle.listing_reader.specs.declared.line.Shape.{Shape}
 use Rattle.editions.specs.Editions.{jumps, jumpsOne, targetOne, fieldsNumberOne}
-use Rattle.editions.specs.Told.{nowhere, aimOne, TellsOne}
+use Rattle.editions.specs.Told.{nowhere, TellsOne}
 use Rattle.editions.specs.declared.LineOne.{LineOne}
 
 -- the value in a place

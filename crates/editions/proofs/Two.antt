@@ -1,13 +1,13 @@
 -- Laws of a line of edition 2, as it is told once its first field is known.
 -- Assumes nothing.
-use Prim.Native.Nat.{ℕ, suc, zero, _+_, _-_, _≤_, _<_}
+use Prim.Native.Nat.{ℕ, suc, _+_, _-_, _≤_, _<_}
 use mathlib.Core.Path.{_≡_, refl, sym, ap, ap₂, subst, _∙_}
 use mathlib.Core.Bool.{Bool, true, false, not, _||_, _&&_}
-use mathlib.Core.List.{List, [], _∷_, _++_}
+use mathlib.Core.List.{List, [], _∷_}
 use native.Mathlib.Omega.{arith}
 use native.Mathlib.Decide.{ℕ-discrete, decLt}
 use borrow.Author.Tests.{eq-eqb, ne-eqb, eqb-true, lt-ltb, le-ltb}
-use lib.Dec.{eqb, ltb, leb}
+use lib.Dec.{eqb, leb}
 use lib.ListN.{length, getD, take, drop, length-drop}
 use lib.Seq.{take-all}
 use Rattle.instruction.specs.Bits.{pick}
@@ -22,7 +22,6 @@ use Rattle.text.proofs.Bools.{both, never}
 use Rattle.text.proofs.Cuts.{behind, cut-first, cut-joined, found-piece, found-inside}
 use Rattle.text.proofs.Rows.{after-last, after-next, field-next}
 use Rattle.fields.specs.Fields.{allNumbers, NumbersRead}
-use Rattle.fields.proofs.Gathered.{first-field}
 use Rattle.label.specs.Label.{isLabelByte, allLabelBytes, isLabel, labelSize}
 use Rattle.names.specs.Names.{nameCount, rowNamed}
 use Rattle.listing_reader.specs.ReadBack.{fieldCount}

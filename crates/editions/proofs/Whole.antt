@@ -1,22 +1,22 @@
 -- Laws of a text that is moved whole or not at all: refused for a line, without room, or written.
 -- Assumes nothing.
-use Prim.Native.Nat.{ℕ, _+_, _≤_, _<_}
-use mathlib.Core.Path.{_≡_, sym, ap, subst, _∙_}
-use mathlib.Core.Bool.{Bool, true, false}
+use Prim.Native.Nat.{ℕ, _≤_}
+use mathlib.Core.Path.{_≡_, sym, ap, _∙_}
+use mathlib.Core.Bool.{Bool}
 use mathlib.Core.List.{List, _++_}
 use native.Mathlib.Omega.{arith}
 use native.Mathlib.Nat.{zero-add}
 use borrow.Author.Tests.{eq-eqb, ne-eqb, lt-ltb, le-ltb}
 use lib.Dec.{ltb, eqb}
-use lib.ListN.{length, drop, length-append}
+use lib.ListN.{length, drop}
 use Rattle.instruction.specs.Bits.{pick}
 use Rattle.buffer.specs.Put.{Fits, Put}
 use Rattle.buffer.proofs.Laws.{put-front, fits-first, fits-next, puts-both}
 use Rattle.editions.specs.Moves.{refusedAt, moved, Moves}
-use Rattle.editions.specs.Told.{roomLeft, taken, RoomFor}
+use Rattle.editions.specs.Told.{RoomFor}
 use Rattle.editions.specs.declared.Moved.{Moved}
 use Rattle.editions.specs.declared.Room.{Room}
-use Rattle.editions.proofs.Rooms.{room-start, room-more, room-fits, room-short}
+use Rattle.editions.proofs.Rooms.{room-fits, room-short}
 
 -- ---- judged first
 
@@ -39,14 +39,14 @@ passed-lines judged text before z m =
 
 -- a header and its lines, by what is told of the room for both
 module _ (head lines before : List ℕ) {left : Room} (told : RoomFor (length before) (length (head ++ lines)) left) where
-  pub moves-short : left .fits ≡ false → {r : Moved} → r ≡ refusedAt 64 0 → Moves (moved 0) (head ++ lines) before before r
+  pub moves-short : left .left ≡ 0 → {r : Moved} → r ≡ refusedAt 64 0 → Moves (moved 0) (head ++ lines) before before r
   moves-short f e =
       record {
         answer = e ∙ sym (ap (λ (t : Bool). pick t (refusedAt 64 0) (moved (length (head ++ lines)))) (lt-ltb (length before) (length (head ++ lines)) (room-short (length before) (length (head ++ lines)) told f)));
         bytes = sym (ap (λ (x : Moved). pick (eqb (x .number) 0) ((head ++ lines) ++ drop (length (head ++ lines)) before) before) e);
       }
 
-  module _ (f : left .fits ≡ true) where
+  module _ (f : left .left ≡ 0 → ⊥) where
     small : length (head ++ lines) ≤ length before
     small = room-fits (length before) (length (head ++ lines)) told f
 
@@ -69,9 +69,3 @@ module _ (head lines before : List ℕ) {left : Room} (told : RoomFor (length be
                 ∙ sym (ap (λ (t : Bool). pick t (refusedAt 64 0) (moved (length (head ++ lines)))) (le-ltb (length before) (length (head ++ lines)) small));
             bytes = whole .wrote ∙ put-front before (head ++ lines);
           }
-
--- the room that a header leaves
-pub head-room : (all head : ℕ) {start room : Room} → start ≡ roomLeft all → room ≡ taken head start → RoomFor all head room
-head-room all head {start = start} s r =
-    subst (RoomFor all head) (sym (r ∙ ap (taken head) s))
-    (subst (λ (k : ℕ). RoomFor all k (taken head (roomLeft all))) (zero-add head) (room-more all 0 head (room-start all)))

@@ -1,7 +1,7 @@
 -- The two editions of a listing, line by line. Document 02, CR 7: "Listing edition 2, header number 2, drops the address field, gives REPEAT,
 -- GOTO and CALL a label as target, and has lines `label`, tab, name before the word meant. PREFETCH keeps its number."
 use Prim.Native.Nat.{ℕ}
-use mathlib.Core.Bool.{Bool, true, false, not, _||_, _&&_}
+use mathlib.Core.Bool.{Bool, false, not, _||_, _&&_}
 use mathlib.Core.List.{List, [], _∷_, _++_}
 use lib.Dec.{ltb, eqb, leb}
 use lib.ListN.{length, getD, take, drop}

@@ -1,6 +1,6 @@
 -- What the functions tell of a line, edition by edition: it carries the code, and needs no belief.
 use Prim.Native.Nat.{ℕ, _+_, _-_, _^_, _≤_}
-use lib.Dec.{eqb, leb}
+use lib.Dec.{eqb}
 use mathlib.Core.Path.{_≡_}
 use mathlib.Core.Bool.{Bool, true, false, not, _||_, _&&_}
 use mathlib.Core.List.{List, [], _∷_}
@@ -99,21 +99,17 @@ TellsRow row r = TellsTwo (row .ended) (row .bytes) r
 
 -- ---- room
 
--- what is left of a room, or that it did not do
-abbrev pub roomLeft : ℕ → Room
-roomLeft left = record { fits = true; left = left }
-
-abbrev pub roomSpent : Room
-roomSpent = record { fits = false; left = 0 }
+-- one more than what is left behind so many bytes, and 0 where they do not fit
+abbrev pub roomBehind : ℕ → ℕ → Room
+roomBehind all size = record { left = all + 1 - size }
 
 -- with so much more in it
 abbrev pub taken : ℕ → Room → Room
-taken more room = pick (room .fits && leb more (room .left)) (roomLeft (room .left - more)) roomSpent
+taken more room = record { left = room .left - more }
 
 -- what is told of a room once so much of it is asked for
-pub record RoomFor (all size : ℕ) (r : Room) : Type 0 where
-  pub fits : r .fits ≡ leb size all
-  pub left : r .fits ≡ true → r .left + size ≡ all
+abbrev pub RoomFor : ℕ → ℕ → Room → Type 0
+RoomFor all size r = r .left ≡ all + 1 - size
 
 -- a room with so much more in it
 abbrev pub Takes : Room → ℕ → Room → Type 0

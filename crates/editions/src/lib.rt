@@ -3,12 +3,12 @@
 ghost use mathlib.Core.Path.{_≡_};
 ghost use mathlib.Core.Bool.{true};
 ghost use mathlib.Core.List.{[]};
-ghost use Prim.Native.Nat.{_≤_};
+ghost use Prim.Native.Nat.{_≤_, _<_};
 ghost use lib.ListN.{length, getD};
 ghost use Rattle.text.specs.Cut.{tab, cut, fieldsAfter, rowAt};
 ghost use Rattle.editions.specs.Editions.{jumps};
 ghost use Rattle.editions.specs.Moves.{refusedAt};
-ghost use Rattle.editions.specs.Told.{finalFrom, nowhere, TellsOne, roomLeft, roomSpent, taken, lastLabel, hasTarget, Finds, KindOf, foundTwo, plainTwo, TellsTwo, TellsRow, GlancesOne, GlancesTwo};
+ghost use Rattle.editions.specs.Told.{finalFrom, nowhere, TellsOne, roomBehind, taken, lastLabel, hasTarget, Finds, KindOf, foundTwo, plainTwo, TellsTwo, TellsRow, GlancesOne, GlancesTwo};
 use fields::read_numbers;
 use instruction::Body;
 use label::is_label;
@@ -43,19 +43,22 @@ impl Moved {
     }
 }
 
-// Room for a text that is written whole or not at all: what is left of it, while all that is asked for fits.
+// Room for a text that is written whole or not at all: one more than what is left of it, and 0 where what is asked for does not fit.
 pub struct Room {
-    pub fits: bool,
     pub left: usize,
 }
 
 impl Room {
-    pub fn new(size: usize) -> Room
-        ensures { λ r. ⌜ r ≡ roomLeft size ⌝ }
+    // In a buffer of this size, behind its first bytes.
+    pub fn behind(size: usize, head: usize) -> Room
+        requires { ⌜ 0 < head ⌝ }
+        ensures { λ r. ⌜ r ≡ roomBehind size head ⌝ }
     {
+        if size < head {
+            return Room { left: 0 };
+        }
         Room {
-            fits: true,
-            left: size,
+            left: size - head + 1,
         }
     }
 
@@ -63,20 +66,10 @@ impl Room {
     pub fn take(self, more: usize) -> Room
         ensures { λ r. ⌜ r ≡ taken more self ⌝ }
     {
-        if !self.fits {
-            return Room {
-                fits: false,
-                left: 0,
-            };
-        }
-        if self.left < more {
-            return Room {
-                fits: false,
-                left: 0,
-            };
+        if self.left <= more {
+            return Room { left: 0 };
         }
         Room {
-            fits: true,
             left: self.left - more,
         }
     }

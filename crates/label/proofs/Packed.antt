@@ -139,6 +139,10 @@ label-bytes a h = all-bytes a (both (leb (length a) labelSize) (allLabelBytes a)
 pub label-size : (a : List ℕ) → isLabel a ≡ true → length a ≤ labelSize
 label-size a h = leb-true (length a) labelSize (both (leb (length a) labelSize) (allLabelBytes a) (both (leb 1 (length a)) (leb (length a) labelSize && allLabelBytes a) h .1) .0)
 
+-- and has a letter
+pub label-some : (a : List ℕ) → isLabel a ≡ true → 1 ≤ length a
+label-some a h = leb-true 1 (length a) (both (leb 1 (length a)) (leb (length a) labelSize && allLabelBytes a) h .0)
+
 -- ---- the first of a label
 
 not-same : (a b : List ℕ) → sameText a b ≡ false → a ≡ b → ⊥

@@ -1,15 +1,15 @@
 -- Laws of the numbers of many labels and of the table that finds them.
 -- Assumes nothing.
-use Prim.Native.Nat.{ℕ, zero, suc, _+_, _-_, _*_, _/_, _%_, _≤_, _<_}
+use Prim.Native.Nat.{ℕ, zero, suc, _-_, _/_, _≤_, _<_}
 use mathlib.Core.Path.{_≡_, refl, sym, ap, ap₂, _∙_}
-use mathlib.Core.Bool.{Bool, true, false, _&&_}
+use mathlib.Core.Bool.{Bool, true, false}
 use mathlib.Core.List.{List, [], _∷_}
 use native.Mathlib.Omega.{arith}
-use borrow.Author.Tests.{eqb-true, eq-eqb, le-leb, lt-leb, leb-false}
+use borrow.Author.Tests.{eqb-true, le-leb, lt-leb, leb-false}
 use lib.Dec.{eqb, leb}
 use lib.ListN.{length, getD}
 use Rattle.instruction.specs.Bits.{pick}
-use Rattle.text.proofs.Bools.{both, never}
+use Rattle.text.proofs.Bools.{both}
 use Rattle.label.specs.First.{IsFirst}
 use Rattle.label.specs.Key.{keyAt, count, sameKey, empty, ends, below, placeFrom, placeOf, hit, seekOf, Looked, soonerOf}
 use Rattle.label.specs.declared.Key.{Key}

@@ -2,7 +2,7 @@
 -- It carries the code, and needs no belief.
 use Prim.Native.Nat.{ℕ, zero, suc, _+_, _*_, _/_, _%_, _≤_, _<_}
 use mathlib.Core.Path.{_≡_}
-use mathlib.Core.Bool.{Bool, true, false, _&&_}
+use mathlib.Core.Bool.{Bool, true, _&&_}
 use mathlib.Core.List.{List, [], _∷_}
 use lib.Dec.{eqb, leb}
 use lib.ListN.{length, getD, take, drop}
@@ -34,11 +34,15 @@ pub record Short (from to : ℕ) (text : List ℕ) : Type 0 where
 
 -- ---- the numbers of many
 
+-- three for each: those of the label, and what it means
 abbrev pub keyAt : List ℕ → ℕ → Key
-keyAt keys j = record { lo = getD keys (2 * j) 0; hi = getD keys (2 * j + 1) 0 }
+keyAt keys j = record { lo = getD keys (3 * j) 0; hi = getD keys (3 * j + 1) 0 }
+
+abbrev pub meansAt : List ℕ → ℕ → ℕ
+meansAt keys j = getD keys (3 * j + 2) 0
 
 abbrev pub count : List ℕ → ℕ
-count keys = length keys / 2
+count keys = length keys / 3
 
 abbrev pub sameKey : Key → Key → Bool
 sameKey a b = eqb (a .lo) (b .lo) && eqb (a .hi) (b .hi)
@@ -57,14 +61,14 @@ empty = 4294967294
 
 -- slots that a hash leads to
 abbrev pub firstSlots : ℕ
-firstSlots = 131072
+firstSlots = 65536
 
 -- steps down a tree
 abbrev pub steps : ℕ
 steps = 129
 
 abbrev pub slotOf : Key → ℕ
-slotOf k = (k .lo % 4294967291 * 2654435769 / 65536 + k .hi % 4294967279 * 2246822519 / 65536) % 131071
+slotOf k = (k .lo % 4294967291 * 2654435769 / 65536 + k .hi % 4294967279 * 2246822519 / 65536) % 65536
 
 -- whether a way down ends: no label stands there, or this one
 abbrev pub ends : List ℕ → Key → ℕ → Bool

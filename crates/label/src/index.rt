@@ -3,7 +3,7 @@
 ghost use mathlib.Core.Path.{_≡_};
 ghost use Prim.Native.Nat.{_<_};
 ghost use lib.ListN.{getD};
-ghost use Rattle.label.specs.Key.{count, keyAt, sameKey, empty, slotOf, placeOf, seekOf, soonerOf, Seen};
+ghost use Rattle.label.specs.Key.{count, keyAt, meansAt, sameKey, empty, slotOf, placeOf, seekOf, soonerOf, Seen};
 use crate::Key;
 
 pub struct Table;
@@ -12,11 +12,14 @@ impl Table {
     // Labels that it takes: as many as the longest sequence has words.
     pub const LABELS: usize = 65536;
 
+    // Numbers that are kept of each: its own two, and what it means.
+    pub const NUMBERS: usize = 3;
+
     // Slots that a hash leads to.
-    pub const FIRST: usize = 131072;
+    pub const FIRST: usize = 65536;
 
     // Those, and two below each label.
-    pub const SLOTS: usize = 262144;
+    pub const SLOTS: usize = 196608;
 
     // What stands in a slot that no label has.
     pub const EMPTY: u32 = 4294967294;
@@ -41,14 +44,22 @@ fn entry(table: &[u32], slot: usize) -> usize
     number(table[slot])
 }
 
-// The numbers of a label, two of which stand for each.
+// The numbers of a label.
 fn key_at(keys: &[u64], j: usize) -> Key
     requires { ⌜ j < count (now keys) ⌝ }
     ensures { λ r. ⌜ r ≡ keyAt (now (keys .entry)) j ⌝ }
 {
-    let lo = keys[2 * j];
-    let hi = keys[2 * j + 1];
+    let lo = keys[Table::NUMBERS * j];
+    let hi = keys[Table::NUMBERS * j + 1];
     Key { lo, hi }
+}
+
+// What a label means.
+pub fn means_at(keys: &[u64], j: usize) -> u64
+    requires { ⌜ j < count (now keys) ⌝ }
+    ensures { λ r. ⌜ r ≡ meansAt (now (keys .entry)) j ⌝ }
+{
+    keys[Table::NUMBERS * j + 2]
 }
 
 fn same_key(a: Key, b: Key) -> bool
@@ -62,14 +73,14 @@ fn slot_of(k: Key) -> usize
 {
     let lo = k.lo % 4294967291 * 2654435769 / 65536;
     let hi = k.hi % 4294967279 * 2246822519 / 65536;
-    ((lo + hi) % 131071) as usize
+    ((lo + hi) % 65536) as usize
 }
 
 // The slot in which a label stands, or in which it would.
 fn place(keys: &[u64], table: &[u32], k: Key) -> usize
     ensures { λ r. ⌜ r ≡ placeOf (now (keys .entry)) (now (table .entry)) k ⌝ }
 {
-    let n = keys.len() / 2;
+    let n = keys.len() / Table::NUMBERS;
     let mut slot = slot_of(k);
     let mut bits = k.lo;
     let mut others = k.hi;
@@ -96,7 +107,7 @@ fn place(keys: &[u64], table: &[u32], k: Key) -> usize
 pub fn seek(keys: &[u64], table: &[u32], k: Key) -> usize
     ensures { λ r. ⌜ r ≡ seekOf (now (keys .entry)) (now (table .entry)) k ⌝ }
 {
-    let n = keys.len() / 2;
+    let n = keys.len() / Table::NUMBERS;
     let slot = place(keys, table, k);
     let at = entry(table, slot);
     if n <= at {
@@ -124,7 +135,7 @@ fn put(table: &mut [u32], n: usize, slot: usize, j: usize) {
 }
 
 fn build(keys: &[u64], table: &mut [u32]) {
-    let n = keys.len() / 2;
+    let n = keys.len() / Table::NUMBERS;
     let mut j: usize = 0;
     while j < n {
         let k = key_at(keys, j);
@@ -156,7 +167,7 @@ fn sooner(double: usize, at: usize, j: usize) -> usize
 fn look(keys: &[u64], table: &[u32]) -> Sight
     ensures { λ r. ⌜ Seen (now (keys .entry)) (now (table .entry)) r ⌝ }
 {
-    let n = keys.len() / 2;
+    let n = keys.len() / Table::NUMBERS;
     let mut double = n;
     let mut j: usize = 0;
     while j < n {
@@ -181,7 +192,7 @@ fn look(keys: &[u64], table: &[u32]) -> Sight
 pub fn prepare(keys: &[u64], table: &mut [u32]) -> Sight
     ensures { λ r. ⌜ Seen (now (keys .entry)) (now (table .exit)) r ⌝ }
 {
-    if Table::LABELS < keys.len() / 2 {
+    if Table::LABELS < keys.len() / Table::NUMBERS {
         return Sight {
             ready: false,
             double: 0,

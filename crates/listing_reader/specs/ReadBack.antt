@@ -42,6 +42,10 @@ isKnown fs = ltb (rowNamed (nameIn fs)) nameCount
 abbrev pub instructionOf : ℕ → List ℕ → Instruction
 instructionOf row vs = record { engine = getD vs 0 0; write = getD vs 1 0; body = bodyOf row (drop 2 vs) }
 
+-- how many fields the listing shows behind a name
+abbrev pub fieldCount : ℕ → ℕ
+fieldCount row = length (entriesOf (instructionOf row [])) - 1
+
 -- what a line asks the writer for
 abbrev pub wishIn : List (List ℕ) → Instruction
 wishIn fs = instructionOf (rowNamed (nameIn fs)) (map value (numbersIn fs))
@@ -118,10 +122,6 @@ pub record ReadsBack (rules : Rules) (text before after : List ℕ) (r : ReadBac
   pub words : after ≡ pick (eqb (r .number) 0) (wordsIn rules text ++ drop (length (wordsIn rules text)) before) before
 
 -- ---- what the functions tell
-
--- how many fields the listing shows behind a name
-abbrev pub fieldCount : ℕ → ℕ
-fieldCount row = length (entriesOf (instructionOf row [])) - 1
 
 -- what is wrong with a line that has a known name and these fields behind it
 abbrev pub knownNumber : ℕ → ℕ → ℕ → List (List ℕ) → ℕ

@@ -1,51 +1,19 @@
 -- Laws of names: every row of the table has its own, which its third letter and its length tell, and what is written of it is the name.
 -- Assumes nothing.
-use Prim.Native.Nat.{ℕ, zero, suc, _+_, _-_, _≤_, _<_}
+use Prim.Native.Nat.{ℕ, zero, suc, _+_, _≤_, _<_}
 use mathlib.Core.Path.{_≡_, refl, sym, ap, _∙_}
 use mathlib.Core.Bool.{Bool, true, false, _&&_}
-use mathlib.Core.List.{List, _∷_, _++_}
+use mathlib.Core.List.{List}
 use native.Mathlib.Omega.{arith}
 use borrow.Author.Tests.{eqb-true, leb-true}
 use lib.Dec.{eqb, leb}
-use lib.ListN.{length, take, drop, getD}
-use lib.Seq.{take-append-seam}
+use lib.ListN.{length, getD}
 use Rattle.instruction.specs.Bits.{pick}
-use Rattle.instruction.specs.declared.Body.{Body}
-use Rattle.instruction.specs.declared.Body.the-variants.{Waveform, Marker, Wait, LoadRepeat, Repeat, Cmp, Goto, Call, Return, Sync, Modulator, LoadCmp, Prefetch, Noop}
-use Rattle.buffer.specs.Put.{Put}
-use Rattle.text.specs.Cut.{tab, sameText}
-use Rattle.text.specs.Line.{letters}
+use Rattle.text.specs.Cut.{sameText}
 use Rattle.text.proofs.Alike.{same-text}
 use Rattle.text.proofs.Below.{allBelow, all-below}
-use Rattle.names.specs.Names.{nameOf, nameCount, nameAt, namedFrom, rowNamed, guessOf}
+use Rattle.names.specs.Names.{nameCount, nameAt, namedFrom, rowNamed, guessOf}
 use Rattle.text.proofs.Bools.{both}
-
--- no name is longer
-pub name-short : (b : Body) → length (letters (nameOf b)) ≤ 11
-name-short (Waveform f) = omega arith
-name-short (Marker f) = omega arith
-name-short Wait = omega arith
-name-short (LoadRepeat n) = omega arith
-name-short (Repeat a) = omega arith
-name-short (Cmp x) = omega arith
-name-short (Goto a) = omega arith
-name-short (Call a) = omega arith
-name-short (Return p) = omega arith
-name-short Sync = omega arith
-name-short (Modulator f) = omega arith
-name-short (LoadCmp p) = omega arith
-name-short (Prefetch a) = omega arith
-name-short Noop = omega arith
-
--- what is written behind the tab
-pub written-name : (l before : List ℕ) {after : List ℕ} {r : ℕ} → Put (tab ∷ l) before 0 after r → take (r - 1) (drop 1 after) ≡ l
-written-name l before {r = r} p =
-    ap (λ (x : List ℕ). take (r - 1) (drop 1 x)) (p .wrote)
-    ∙ ap (λ (k : ℕ). take k (l ++ drop (0 + length (tab ∷ l)) before)) (less r (length l) (p .end))
-    ∙ take-append-seam l (drop (0 + length (tab ∷ l)) before)
-  where
-    less : (r n : ℕ) → r ≡ 0 + suc n → r - 1 ≡ n
-    less r n e = omega arith
 
 -- ---- each name has one row
 

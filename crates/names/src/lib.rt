@@ -7,7 +7,6 @@ ghost use Rattle.text.specs.Cut.{tab, sameText};
 ghost use Rattle.text.specs.Line.{letters};
 ghost use Rattle.names.specs.Names.{nameOf, nameAt, rowNamed, guessOf};
 use instruction::Body;
-use laid::fields::body_of;
 use page::put_word;
 use text::same;
 
@@ -16,9 +15,6 @@ pub struct Names;
 impl Names {
     // The op codes in their order, and NOOP behind the last of them.
     pub const COUNT: u64 = Body::PREFETCH + 2;
-
-    // Room for the longest name, and a tab before it.
-    pub const LONGEST: usize = 12;
 
     // No name is shorter; no two have the same third letter and the same length.
     pub const SHORTEST: usize = 3;
@@ -51,9 +47,22 @@ pub fn put_name(page: &mut [u8], at: usize, body: Body) -> usize
 fn is_name(text: &[u8], row: u64) -> bool
     ensures { λ r. ⌜ r ≡ sameText (now (text .entry)) (nameAt row) ⌝ }
 {
-    let mut page = [0u8; Names::LONGEST];
-    let end = put_name(&mut page, 0, body_of(row, 0, 0, 0, 0));
-    same(text, &page[1..end])
+    match row {
+        Body::WAVEFORM => same(text, b"WAVEFORM"),
+        Body::MARKER => same(text, b"MARKER"),
+        Body::WAIT => same(text, b"WAIT"),
+        Body::LOAD_REPEAT => same(text, b"LOAD_REPEAT"),
+        Body::REPEAT => same(text, b"REPEAT"),
+        Body::CMP => same(text, b"CMP"),
+        Body::GOTO => same(text, b"GOTO"),
+        Body::CALL => same(text, b"CALL"),
+        Body::RETURN => same(text, b"RETURN"),
+        Body::SYNC => same(text, b"SYNC"),
+        Body::MODULATOR => same(text, b"MODULATOR"),
+        Body::LOAD_CMP => same(text, b"LOAD_CMP"),
+        Body::PREFETCH => same(text, b"PREFETCH"),
+        _ => same(text, b"NOOP"),
+    }
 }
 
 // The only row whose name has this third letter and this length, where there is one.

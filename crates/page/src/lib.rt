@@ -2,22 +2,45 @@
 // Whoever writes lines has made room on the page before, so that no byte asks for it.
 ghost use mathlib.Core.Path.{_≡_};
 ghost use mathlib.Core.List.{[], _∷_};
-ghost use Prim.Native.Nat.{_%_};
+ghost use Prim.Native.Nat.{_%_, _<_};
 ghost use lib.ListN.{length};
 ghost use Rattle.buffer.specs.Put.{Fits, Put};
 ghost use Rattle.text.specs.Cut.{tab};
 ghost use Rattle.text.specs.Line.{number, digit, decimal, restText};
 
+// Digits that are counted at a time, and the least number that has more.
+const STEP: usize = 4;
+
+const PAST_STEP: u64 = 10000;
+
+// How many digits a number of at most four has.
+fn few_digits(n: u64) -> usize
+    requires { ⌜ n < 10000 ⌝ }
+    ensures { λ r. ⌜ r ≡ length (decimal n) ⌝ }
+{
+    if n < 10 {
+        return 1;
+    }
+    if n < 100 {
+        return 2;
+    }
+    if n < 1000 {
+        return 3;
+    }
+    STEP
+}
+
+// Four digits at a time.
 pub fn digit_count(n: u64) -> usize
     ensures { λ r. ⌜ r ≡ length (decimal n) ⌝ }
 {
     let mut rest = n;
-    let mut count: usize = 1;
-    while 10 <= rest {
-        rest = rest / 10;
-        count += 1;
+    let mut count: usize = 0;
+    while PAST_STEP <= rest {
+        rest = rest / PAST_STEP;
+        count += STEP;
     }
-    count
+    count + few_digits(rest)
 }
 
 fn last_digit(n: u64) -> u8

@@ -52,7 +52,7 @@ rowsIn text = rowsOf (cut lineFeed text)
 abbrev pub fieldsIn : Row → List (List ℕ)
 fieldsIn row = cut tab (row .bytes)
 
--- ---- what the functions tell
+-- ---- alike
 
 abbrev pub sameText : List ℕ → List ℕ → Bool
 sameText [] [] = true
@@ -60,16 +60,18 @@ sameText [] (y ∷ ys) = false
 sameText (x ∷ xs) [] = false
 sameText (x ∷ xs) (y ∷ ys) = eqb x y && sameText xs ys
 
+-- whether a number is one of a list's
+abbrev pub has : ℕ → List ℕ → Bool
+has x [] = false
+has x (b ∷ bs) = eqb b x || has x bs
+
+-- ---- what the functions tell
+
 -- whether a text starts with another
 abbrev pub startsWith : List ℕ → List ℕ → Bool
 startsWith [] bs = true
 startsWith (x ∷ xs) [] = false
 startsWith (x ∷ xs) (b ∷ bs) = eqb b x && startsWith xs bs
-
--- whether a number is one of a list's
-abbrev pub has : ℕ → List ℕ → Bool
-has x [] = false
-has x (b ∷ bs) = eqb b x || has x bs
 
 -- what stands before the first of a byte, all where there is none
 abbrev pub before : ℕ → List ℕ → List ℕ
@@ -90,6 +92,9 @@ placeOf x from text = from + length (before x (drop from text))
 
 -- ---- what the functions ask
 
--- how many bytes are passed over at a time where a byte is looked for
+-- how many bytes are passed over at a time where a byte is looked for, and how many of them are looked at in one go
 abbrev pub stride : ℕ
-stride = 4
+stride = 8
+
+abbrev pub half : ℕ
+half = 4

@@ -5,18 +5,31 @@ ghost use mathlib.Core.Bool.{true, false};
 ghost use Prim.Native.Nat.{_≤_, _<_, _+_, _*_, _-_};
 ghost use lib.Dec.{ltb};
 ghost use lib.ListN.{length, drop};
-ghost use Rattle.text.specs.Cut.{placeOf, sameText, startsWith, stride};
+ghost use Rattle.text.specs.Cut.{placeOf, sameText, startsWith, half, stride};
 ghost use Rattle.text.specs.Number.{isDigit, numbers, counted, uncounted, countedTo, countedThen, countedAt, Led};
 
 // How many bytes are passed over at a time.
-const STRIDE: usize = 4;
+const STRIDE: usize = 8;
 
-// Whether the bytes of a stride are all others.
+// How many of them are compared in one go.
+const HALF: usize = 4;
+
+// Whether the bytes of half a stride are all others.
 fn are_others(text: &[u8], i: usize, x: u8) -> bool
+    requires { ⌜ i + half ≤ length (now text) ⌝ }
+    ensures { λ r. ⌜ (r ≡ true → placeOf x (i + half) (now (text .entry)) ≡ placeOf x i (now (text .entry))) ⌝ }
+{
+    (text[i] != x) & (text[i + 1] != x) & (text[i + 2] != x) & (text[i + 3] != x)
+}
+
+// Whether the bytes of a stride are.
+fn may_stride(text: &[u8], i: usize, x: u8) -> bool
     requires { ⌜ i + stride ≤ length (now text) ⌝ }
     ensures { λ r. ⌜ (r ≡ true → placeOf x (i + stride) (now (text .entry)) ≡ placeOf x i (now (text .entry))) ⌝ }
 {
-    (text[i] != x) & (text[i + 1] != x) & (text[i + 2] != x) & (text[i + 3] != x)
+    let front = are_others(text, i, x);
+    let back = are_others(text, i + HALF, x);
+    front & back
 }
 
 // A place to look for a byte from in another's stead: the strides before it are all others.
@@ -29,7 +42,7 @@ fn stride_over(text: &[u8], from: usize, x: u8) -> usize
     let last = text.len() - STRIDE;
     let mut i = from;
     while i <= last {
-        if !are_others(text, i, x) {
+        if !may_stride(text, i, x) {
             return i;
         }
         i += STRIDE;

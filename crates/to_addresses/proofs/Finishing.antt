@@ -1,6 +1,6 @@
 -- Laws of the whole move: what is known of the labels once they are collected, and a text judged and then written whole or not at all.
 -- Assumes nothing.
-use Prim.Native.Nat.{ℕ, zero, suc, _+_, _-_, _*_, _/_, _≤_, _<_}
+use Prim.Native.Nat.{ℕ, zero, suc, _+_, _*_, _≤_, _<_}
 use mathlib.Core.Path.{_≡_, refl, sym, ap, ap₂, subst, _∙_}
 use mathlib.Core.Bool.{Bool, true, false, _&&_}
 use mathlib.Core.List.{List, [], _∷_, _++_}
@@ -15,7 +15,7 @@ use Rattle.text.specs.Cut.{Row, fieldsIn, rowsIn}
 use Rattle.text.proofs.Bools.{both}
 use Rattle.label.specs.Label.{isLabel}
 use Rattle.label.specs.First.{IsDouble}
-use Rattle.label.specs.Key.{keyOf, keyAt, count, Holds, Looked, Seen}
+use Rattle.label.specs.Key.{keyOf, count, Holds, Seen}
 use Rattle.label.specs.declared.Key.{Key}
 use Rattle.label.specs.declared.index.Sight.{Sight}
 use Rattle.label.proofs.Packed.{label-one}
@@ -23,13 +23,13 @@ use Rattle.listing.specs.Listing.{headOf}
 use Rattle.listing_reader.specs.ReadBack.{isEdition, rowsBehind}
 use Rattle.listing_reader.proofs.Lines.{header-size, edition-is, edition-not}
 use Rattle.editions.specs.Editions.{isLabelLine, labelIn, defines}
-use Rattle.editions.specs.Moves.{refusedAt, moved, Moves, Definition, definedFrom, labelsOf, judgedTwo, labelsJudged, addressedFrom, addressed, ToAddresses}
-use Rattle.editions.specs.Told.{roomLeft, taken, RoomFor}
+use Rattle.editions.specs.Moves.{refusedAt, moved, Moves, definedFrom, labelsOf, judgedTwo, labelsJudged, addressedFrom, addressed, ToAddresses}
+use Rattle.editions.specs.Told.{RoomFor}
 use Rattle.editions.specs.declared.Moved.{Moved}
 use Rattle.editions.specs.declared.Room.{Room}
 use Rattle.editions.proofs.Two.{defined-label}
-use Rattle.editions.proofs.Whole.{refused-lines, passed-lines, moves-short, head-fits, lines-fit, moves-whole, head-room}
-use Rattle.to_addresses.specs.Moving.{rowsFrom, definedIn, nothing, KeptKeys, KeptPlaces, Collected, Knows, Judges, LayableAll, Parts, Finishes}
+use Rattle.editions.proofs.Whole.{refused-lines, passed-lines, moves-short, head-fits, lines-fit, moves-whole}
+use Rattle.to_addresses.specs.Moving.{rowsFrom, definedIn, nothing, Collected, Knows, Notes, Judges, Parts, Finishes}
 use Rattle.to_addresses.specs.declared.Judged.{Judged}
 use Rattle.to_addresses.specs.declared.Known.{Known}
 use Rattle.to_addresses.specs.declared.Passed.{Passed}
@@ -51,19 +51,19 @@ all-labels a (row ∷ rows) j l = by (defines row) (isLabelLine (fieldsIn row)) 
     by false true e j l ih = ih a j l
     by false false e j l ih = ih (a + 1) j l
 
-module _ (text : List ℕ) (from : ℕ) (keys places table : List ℕ) (end : Passed) (p : Parts text from keys places end) {sight : Sight} (s : Seen keys table sight) where
+module _ (text : List ℕ) (from : ℕ) (keys table : List ℕ) (end : Passed) (p : Parts text from keys end) {sight : Sight} (s : Seen keys table sight) where
   abbrev pub known : Known
-  known = record { from = from; ready = sight .ready && eqb (length places) (end .labels); double = sight .double; labels = end .labels; words = end .words }
+  known = record { from = from; ready = sight .ready && eqb (count keys) (end .labels); double = sight .double; labels = end .labels; words = end .words }
 
-  module _ (r : (sight .ready && eqb (length places) (end .labels)) ≡ true) where
+  module _ (r : (sight .ready && eqb (count keys) (end .labels)) ≡ true) where
     seen : sight .ready ≡ true
-    seen = both (sight .ready) (eqb (length places) (end .labels)) r .0
+    seen = both (sight .ready) (eqb (count keys) (end .labels)) r .0
 
-    whole : length places ≡ end .labels
-    whole = eqb-true (length places) (end .labels) (both (sight .ready) (eqb (length places) (end .labels)) r .1)
+    whole : count keys ≡ end .labels
+    whole = eqb-true (count keys) (end .labels) (both (sight .ready) (eqb (count keys) (end .labels)) r .1)
 
     many : count keys ≡ length (labelsOf (definedIn text from))
-    many = omega (arith, p .many, whole, p .collected .labels, labels-length (definedIn text from))
+    many = omega (arith, whole, p .collected .labels, labels-length (definedIn text from))
 
     inside : (j : ℕ) → j < length (labelsOf (definedIn text from)) → j < length (definedIn text from)
     inside j l = omega (arith, l, labels-length (definedIn text from))
@@ -73,7 +73,7 @@ module _ (text : List ℕ) (from : ℕ) (keys places table : List ℕ) (end : Pa
         record {
           many = many;
           each = λ j l.
-              p .collected .kept j (omega (arith, inside j l, p .collected .labels)) (omega (arith, l, many))
+              p .collected .kept j (omega (arith, inside j l, p .collected .labels)) (omega (arith, l, many)) .0
               ∙ ap keyOf (sym (label-at (definedIn text from) j));
           shaped = λ j l. ap isLabel (label-at (definedIn text from) j) ∙ all-labels 0 (rowsFrom text from) j (inside j l);
         }
@@ -91,22 +91,25 @@ module _ (text : List ℕ) (from : ℕ) (keys places table : List ℕ) (end : Pa
               d .none j i l m (holds .each i (omega (arith, m, k)) ∙ ap keyOf e ∙ sym (holds .each j k));
         }
 
-  pub knows : Knows text keys places table known
+  pub knows : Knows text keys table known
   knows =
       record {
         labels = p .collected .labels;
         words = p .collected .words;
         holds = λ r. holds r;
-        many = λ r. whole r ∙ p .collected .labels;
-        placed = λ r j l m. p .collected .placed j (omega (arith, l, p .few)) m;
+        means = λ r j l. p .collected .kept j (omega (arith, l, whole r)) l .1;
         looked = λ r. s .looked (seen r);
         double = λ r. double r;
       }
 
 -- ---- judged, and written
 
+pub finish-notes : (text : List ℕ) (from : ℕ) (keys : List ℕ) (end : Passed) → Parts text from keys end → {room : Room} {notes : List ℕ} {judged : Judged} → Judges text from room notes judged
+    → judged .number ≡ 0 → Notes text from notes (end .words)
+finish-notes text from keys end p {notes = notes} j z = subst (Notes text from notes) (sym (p .collected .words)) (j .kept z)
+
 module _ (text : List ℕ) (from : ℕ) (before : List ℕ) (h : from ≡ length (headOf 1)) {room : Room} (r : RoomFor (length before) from room)
-    {aims : List ℕ} {judged : Judged} (j : Judges (definedIn text from) (rowsFrom text from) room aims judged) where
+    {notes : List ℕ} {judged : Judged} (j : Judges text from room notes judged) where
   pub finish-bad : (judged .number ≡ 0 → ⊥) → {m : Moved} → m ≡ refusedAt (judged .number) (judged .line) → Finishes text from before before m
   finish-bad n e =
       refused-lines (judgedTwo (labelsOf (definedIn text from)) [] 2 (rowsFrom text from)) (headOf 1 ++ addressedFrom (definedIn text from) 0 (rowsFrom text from)) before
@@ -125,10 +128,10 @@ module _ (text : List ℕ) (from : ℕ) (before : List ℕ) (h : from ≡ length
     passed : {after : List ℕ} {m : Moved} → Moves (moved 0) (headOf 1 ++ addressedFrom (definedIn text from) 0 (rowsFrom text from)) before after m → Finishes text from before after m
     passed w = passed-lines (judgedTwo (labelsOf (definedIn text from)) [] 2 (rowsFrom text from)) (headOf 1 ++ addressedFrom (definedIn text from) 0 (rowsFrom text from)) before finish-good w
 
-    pub finish-short : judged .room .fits ≡ false → {m : Moved} → m ≡ refusedAt 64 0 → Finishes text from before before m
+    pub finish-short : judged .room .left ≡ 0 → {m : Moved} → m ≡ refusedAt 64 0 → Finishes text from before before m
     finish-short f e = passed (moves-short (headOf 1) (addressedFrom (definedIn text from) 0 (rowsFrom text from)) before told f e)
 
-    module _ (f : judged .room .fits ≡ true) where
+    module _ (f : judged .room .left ≡ 0 → ⊥) where
       pub finish-head : Fits (headOf 1) before 0
       finish-head = head-fits (headOf 1) (addressedFrom (definedIn text from) 0 (rowsFrom text from)) before told f
 
@@ -177,11 +180,9 @@ module _ (text : List ℕ) {from : ℕ} (e : from ≡ pick (isEdition 2 text) (l
         (subst (λ (l : List ℕ). Moves (judgedTwo (labelsOf (definedIn text from)) [] 2 (rowsFrom text from)) l before after m) text-is w)
 
     -- the first n labels of those collected
-    pub parts : {keys places : List ℕ} {end : Passed} → Collected text from keys places end → (n : ℕ) → n ≤ end .labels → 2 * n ≤ length keys → n ≤ length places
-        → Parts text from (take (2 * n) keys) (take n places) end
-    parts {keys = keys} {places = places} {end = end} c n l k p =
-        let a = length-take-le (2 * n) keys k in
-        let b = length-take-le n places p in
+    pub parts : {keys : List ℕ} {end : Passed} → Collected text from keys end → (n : ℕ) → 3 * n ≤ length keys → Parts text from (take (3 * n) keys) end
+    parts {keys = keys} {end = end} c n k =
+        let a = length-take-le (3 * n) keys k in
         record {
           head = head-size;
           collected =
@@ -189,12 +190,11 @@ module _ (text : List ℕ) {from : ℕ} (e : from ≡ pick (isEdition 2 text) (l
                 labels = c .labels;
                 words = c .words;
                 kept = λ j m o.
-                    ap₂ (λ (x y : ℕ). key-of x y) (getD-take (2 * n) keys (2 * j) 0 (omega (arith, o, a))) (getD-take (2 * n) keys (2 * j + 1) 0 (omega (arith, o, a)))
-                    ∙ c .kept j m (omega (arith, o, a, k));
-                placed = λ j m o. getD-take n places j 0 (omega (arith, o, b)) ∙ c .placed j m (omega (arith, o, b, p));
+                    let w = c .kept j m (omega (arith, o, a, k)) in (
+                      ap₂ (λ (x y : ℕ). key-of x y) (getD-take (3 * n) keys (3 * j) 0 (omega (arith, o, a))) (getD-take (3 * n) keys (3 * j + 1) 0 (omega (arith, o, a))) ∙ w .0,
+                      getD-take (3 * n) keys (3 * j + 2) 0 (omega (arith, o, a)) ∙ w .1,
+                    );
               };
-          many = omega (arith, a, b);
-          few = omega (arith, b, l);
         }
       where
         key-of : ℕ → ℕ → Key

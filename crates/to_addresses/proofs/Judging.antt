@@ -1,27 +1,26 @@
 -- Laws of lines judged one after the other: doubles, words behind labels, and the number of a line by what was passed before it.
 -- Assumes nothing.
-use Prim.Native.Nat.{ℕ, zero, suc, _+_, _-_, _^_, _≤_, _<_}
-use mathlib.Core.Path.{_≡_, refl, sym, ap, ap₂, subst, _∙_}
-use mathlib.Core.Bool.{Bool, true, false, not, _||_, _&&_}
-use mathlib.Core.List.{List, [], _∷_, _++_}
+use Prim.Native.Nat.{ℕ, suc, _+_, _≤_, _<_}
+use mathlib.Core.Path.{_≡_, refl, sym, ap, ap₂, _∙_}
+use mathlib.Core.Bool.{Bool, true, false, not, _||_}
+use mathlib.Core.List.{List, [], _∷_}
 use native.Mathlib.Omega.{arith}
 use native.Mathlib.Decide.{ℕ-discrete, decLt}
-use borrow.Author.Tests.{eq-eqb, ne-eqb, lt-ltb, le-ltb, ltb-true, ltb-false, le-leb, lt-leb, leb-true, leb-false, eqb-true, eqb-false}
+use borrow.Author.Tests.{eq-eqb, ne-eqb, lt-ltb, le-ltb, ltb-true, ltb-false, le-leb, lt-leb, eqb-false}
 use lib.Dec.{eqb, ltb, leb}
-use lib.ListN.{length, getD, drop, length-drop, length-append}
+use lib.ListN.{length, getD, drop, length-drop}
 use Rattle.instruction.specs.Bits.{pick}
 use Rattle.instruction.specs.Form.{filled}
-use Rattle.text.specs.Cut.{lineFeed, placeOf, Row, rowAt, fieldsIn, sameText}
+use Rattle.text.specs.Cut.{Row, rowAt, fieldsIn, sameText}
 use Rattle.text.proofs.Alike.{same-text, same-self}
 use Rattle.text.proofs.Bools.{never}
-use Rattle.label.specs.Label.{isLabel, among, firstName}
-use Rattle.label.specs.First.{IsFirst, IsDouble}
+use Rattle.label.specs.Label.{among, firstName}
+use Rattle.label.specs.First.{IsFirst}
 use Rattle.label.proofs.Packed.{first-name}
-use Rattle.editions.specs.Editions.{isLabelLine, labelIn, isShapedTwo, isKnownTwo, defines, haveWord, labelNumber, wordNumber, jumpsTwo, targetTwo, numberTwo}
-use Rattle.editions.specs.Moves.{refusedAt, Definition, definedFrom, labelsOf, labelsPast, judgedTwo, addressedFrom}
+use Rattle.editions.specs.Editions.{isLabelLine, labelIn, isShapedTwo, isKnownTwo, defines, haveWord, labelNumber, wordNumber, numberTwo}
+use Rattle.editions.specs.Moves.{Definition, definedFrom, labelsOf}
 use Rattle.editions.specs.Told.{shapeTwo}
-use Rattle.editions.specs.declared.Moved.{Moved}
-use Rattle.to_addresses.specs.Moving.{rowsFrom, definedIn, wordCount, nothing, passedBy, Along, Stands, Twice, labelNumberAt, numberAt, movedLine}
+use Rattle.to_addresses.specs.Moving.{rowsFrom, definedIn, wordCount, Stands, Twice, labelNumberAt, numberAt}
 use Rattle.to_addresses.specs.declared.Known.{Known}
 use Rattle.to_addresses.specs.declared.Passed.{Passed}
 use Rattle.to_addresses.proofs.Keeping.{head-is}
@@ -169,7 +168,7 @@ module _ (labels before : List (List ℕ)) (past : Passed) (prior : Before label
 
 -- ---- a label line, where it stands
 
-module _ (text keys places table : List ℕ) (k : Known) (at end : ℕ) (past : Passed) (s : Stands text keys places table k at end past) (d : defines (rowAt text at end) ≡ true) where
+module _ (text keys table : List ℕ) (k : Known) (at end : ℕ) (past : Passed) (s : Stands text keys table k at end past) (d : defines (rowAt text at end) ≡ true) where
   next : drop (past .labels) (definedIn text (k .from)) ≡ record { called = labelIn (fieldsIn (rowAt text at end)); means = past .words } ∷ definedFrom (past .words) (rowsFrom text (end + 1))
   next = next-defined text (k .from) (s .along) (s .here) (s .ends) d
 

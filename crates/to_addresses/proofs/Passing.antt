@@ -1,16 +1,16 @@
 -- Laws of lines passed one after the other: what they define, and how many labels and words there were.
 -- Assumes nothing.
 use Prim.Native.Nat.{ℕ, zero, suc, _+_, _-_, _^_, _≤_, _<_}
-use mathlib.Core.Path.{_≡_, refl, sym, ap, ap₂, subst, _∙_}
+use mathlib.Core.Path.{_≡_, refl, sym, ap, ap₂, _∙_}
 use mathlib.Core.Bool.{Bool, true, false, not, _&&_}
 use mathlib.Core.List.{List, [], _∷_}
 use native.Mathlib.Omega.{arith}
-use borrow.Author.Tests.{lt-ltb, le-ltb, eq-eqb, ne-eqb}
+use borrow.Author.Tests.{lt-ltb, le-ltb, ne-eqb}
 use lib.Dec.{eqb}
 use lib.ListN.{length, getD, take, drop, length-drop}
 use lib.Seq.{drop-drop, length-take-le, take-nil, getD-drop, getD-take}
 use Rattle.instruction.specs.Bits.{pick}
-use Rattle.text.specs.Cut.{tab, lineFeed, onto, cut, sameText, placeOf, Row, rowAt, rowsIn, fieldsIn, fieldsAfter}
+use Rattle.text.specs.Cut.{tab, lineFeed, onto, cut, sameText, placeOf, Row, rowAt, fieldsIn, fieldsAfter}
 use Rattle.text.proofs.Bools.{both, never, and-false}
 use Rattle.text.proofs.Cuts.{found-order, found-inside}
 use Rattle.text.proofs.Rows.{rows-next, rows-none}

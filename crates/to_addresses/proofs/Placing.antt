@@ -1,6 +1,6 @@
 -- What a word's line moves to, byte by byte: its address, a tab, and the line itself, with an address in place of its label where it jumps.
 -- Assumes nothing.
-use Prim.Native.Nat.{ℕ, suc, _+_, _-_, _≤_, _<_}
+use Prim.Native.Nat.{ℕ, suc, _+_, _-_, _≤_}
 use mathlib.Core.Path.{_≡_, refl, sym, ap, ap₂, _∙_}
 use mathlib.Core.Bool.{Bool, true, false, _&&_}
 use mathlib.Core.List.{List, [], _∷_, _++_, append-assoc}
@@ -10,13 +10,13 @@ use lib.Dec.{eqb}
 use lib.ListN.{length, getD, take, drop, length-append, length-drop}
 use lib.Seq.{take-append-seam, drop-append-seam, length-take-le}
 use Rattle.instruction.specs.Bits.{pick}
-use Rattle.text.specs.Cut.{tab, lineFeed, cut, joined, before}
+use Rattle.text.specs.Cut.{tab, lineFeed, cut, joined}
 use Rattle.text.specs.Line.{decimal}
 use Rattle.text.proofs.Bools.{both}
 use Rattle.text.proofs.Cuts.{joined-cut, cut-first}
 use Rattle.fields.specs.Fields.{allNumbers}
 use Rattle.label.specs.Label.{isLabel}
-use Rattle.editions.specs.Editions.{lineOf, aimed, targetOf, nameTwo, fieldsTwo, jumpsTwo, targetTwo}
+use Rattle.editions.specs.Editions.{lineOf, aimed, nameTwo, fieldsTwo, jumpsTwo, targetTwo}
 use Rattle.editions.specs.Moves.{Definition, meaningIn, fieldsPlaced}
 use Rattle.editions.specs.Told.{hasTarget, final, finalFrom}
 

@@ -1,29 +1,26 @@
 -- Laws of a label looked for, line by line or in the table.
 -- Assumes nothing.
-use Prim.Native.Nat.{ℕ, zero, suc, _+_, _-_, _^_, _≤_, _<_}
-use mathlib.Core.Path.{_≡_, refl, sym, ap, ap₂, subst, _∙_}
-use mathlib.Core.Bool.{Bool, true, false, not, _||_, _&&_}
+use Prim.Native.Nat.{ℕ, zero, suc, _+_, _^_, _≤_, _<_}
+use mathlib.Core.Path.{_≡_, refl, sym, ap, ap₂, _∙_}
+use mathlib.Core.Bool.{Bool, true, false, not, _&&_}
 use mathlib.Core.List.{List, [], _∷_}
 use native.Mathlib.Omega.{arith}
-use borrow.Author.Tests.{eq-eqb, ne-eqb, lt-ltb, le-ltb, ltb-true, ltb-false, eqb-true, eqb-false}
-use lib.Dec.{eqb, ltb}
+use borrow.Author.Tests.{eq-eqb, ne-eqb}
 use lib.ListN.{length, getD, List·getD-eq-default, length-map}
 use Rattle.instruction.specs.Bits.{pick}
 use Rattle.text.specs.Cut.{lineFeed, placeOf, rowAt, fieldsIn, sameText}
 use Rattle.text.proofs.Bools.{both, never}
 use Rattle.text.proofs.Cuts.{found-order}
 use Rattle.text.proofs.Rows.{rows-next, rows-none}
-use Rattle.label.specs.Label.{isLabel, among, firstName}
-use Rattle.label.specs.First.{IsFirst, IsDouble}
-use Rattle.label.specs.Key.{keyOf, keyAt, count, seekOf, Looked}
+use Rattle.label.specs.Label.{isLabel, firstName}
+use Rattle.label.specs.Key.{keyOf, meansAt, count, seekOf}
 use Rattle.label.specs.declared.Key.{Key}
-use Rattle.label.proofs.Packed.{first-name, label-found, label-one}
+use Rattle.label.proofs.Packed.{label-found}
 use Rattle.label.proofs.Seeks.{found}
-use Rattle.editions.specs.Editions.{isLabelLine, labelIn, defines}
+use Rattle.editions.specs.Editions.{isLabelLine, labelIn}
 use Rattle.editions.specs.Moves.{Definition, definedFrom, labelsOf, meaningIn}
 use Rattle.to_addresses.specs.Moving.{rowsFrom, definedIn, nothing, start, passedBy, Few, definesIn, labelTo, DefinesAt, Sought, Knows}
 use Rattle.to_addresses.specs.declared.Defining.{Defining}
-use Rattle.to_addresses.specs.declared.Found.{Found}
 use Rattle.to_addresses.specs.declared.Known.{Known}
 use Rattle.to_addresses.specs.declared.Passed.{Passed}
 
@@ -136,7 +133,7 @@ label-at [] j = refl
 label-at (d ∷ ds) zero = refl
 label-at (d ∷ ds) (suc j) = label-at ds j
 
-module _ (text keys places table : List ℕ) {k : Known} (h : Knows text keys places table k) (r : k .ready ≡ true) where
+module _ (text keys table : List ℕ) {k : Known} (h : Knows text keys table k) (r : k .ready ≡ true) where
   module _ (name : List ℕ) (n : isLabel name ≡ true) {x : Key} (e : x ≡ keyOf name) {first : ℕ} (f : first ≡ seekOf keys table x) where
     first-is : first ≡ firstName (labelsOf (definedIn text (k .from))) name
     first-is =
@@ -146,15 +143,15 @@ module _ (text keys places table : List ℕ) {k : Known} (h : Knows text keys pl
     means-is : getD (definedIn text (k .from)) first nothing .means ≡ meaningIn (definedIn text (k .from)) name
     means-is = ap (λ (j : ℕ). getD (definedIn text (k .from)) j nothing .means) first-is ∙ sym (meaning-first (definedIn text (k .from)) name)
 
-    pub sought-none : length places ≤ first → Sought (definedIn text (k .from)) name (record { first = first; means = 0 })
+    pub sought-none : count keys ≤ first → Sought (definedIn text (k .from)) name (record { first = first; means = 0 })
     sought-none l =
         record {
           first = first-is;
-          means = sym (ap (λ (d : Definition). d .means) (List·getD-eq-default (definedIn text (k .from)) nothing {n = first} (omega (arith, h .many r)))) ∙ means-is;
+          means = sym (ap (λ (d : Definition). d .means) (List·getD-eq-default (definedIn text (k .from)) nothing {n = first} (omega (arith, l, h .holds r .many, labels-length (definedIn text (k .from)))))) ∙ means-is;
         }
 
-    pub sought-here : first < length places → Sought (definedIn text (k .from)) name (record { first = first; means = getD places first 0 })
-    sought-here l = record { first = first-is; means = h .placed r first l l ∙ means-is }
+    pub sought-here : first < count keys → {means : ℕ} → means ≡ meansAt keys first → Sought (definedIn text (k .from)) name (record { first = first; means = means })
+    sought-here l e = record { first = first-is; means = e ∙ h .means r first l ∙ means-is }
 
 -- whether a line defines a label, as it is told
 module _ (text : List ℕ) (end : ℕ) (line : Defining) (name : List ℕ) where

@@ -1,37 +1,38 @@
 -- Laws of a line weighed: its number by what was passed before it, and the room that what it moves to leaves.
 -- Assumes nothing.
-use Prim.Native.Nat.{ℕ, _+_, _-_, _≤_, _<_}
+use Prim.Native.Nat.{ℕ, _+_, _-_, _*_, _≤_, _<_}
 use mathlib.Core.Path.{_≡_, refl, sym, ap, ap₂, subst, _∙_}
 use mathlib.Core.Bool.{Bool, true, false, not, _&&_}
-use mathlib.Core.List.{List, [], _∷_}
+use mathlib.Core.List.{List, [], _∷_, _++_, append-assoc}
 use native.Mathlib.Omega.{arith}
 use borrow.Author.Tests.{eq-eqb, ne-eqb, lt-ltb, le-ltb, le-leb, lt-leb, leb-true, leb-false}
 use lib.Dec.{eqb, ltb, leb}
-use lib.ListN.{length, getD, set, take, drop, length-drop}
-use lib.Seq.{length-take-le, set-out}
+use lib.ListN.{length, getD, set, take, drop, length-drop, length-set}
+use lib.Seq.{length-take-le, take-take}
 use Rattle.instruction.specs.Bits.{pick}
 use Rattle.instruction.specs.Form.{filled}
-use Rattle.text.specs.Cut.{tab, lineFeed, cut, placeOf, Row, rowAt, fieldsIn}
+use Rattle.text.specs.Cut.{tab, lineFeed, rowAt, fieldsIn}
 use Rattle.text.specs.Line.{decimal}
 use Rattle.text.proofs.Bools.{both, never}
 use Rattle.text.proofs.Cuts.{found-order, found-inside}
 use Rattle.fields.specs.Fields.{allNumbers}
 use Rattle.label.specs.Label.{isLabel, among, firstName}
-use Rattle.editions.specs.Editions.{lineOf, isLabelLine, labelIn, jumpsTwo, targetTwo, fieldsTwo, wordNumber, defines}
-use Rattle.editions.specs.Moves.{Definition, labelsOf, meaningIn, fieldsPlaced}
-use Rattle.editions.specs.Told.{shapeTwo, taken, RoomFor, Takes, TellsRow}
+use Rattle.editions.specs.Editions.{lineOf, isLabelLine, labelIn, jumpsTwo, targetTwo, fieldsTwo, wordNumber}
+use Rattle.editions.specs.Moves.{labelsOf, meaningIn, fieldsPlaced}
+use Rattle.editions.specs.Told.{shapeTwo, taken, Takes, TellsRow}
 use Rattle.editions.specs.declared.LineTwo.{LineTwo}
 use Rattle.editions.specs.declared.Room.{Room}
+use Rattle.label.proofs.Packed.{label-some}
 use Rattle.editions.proofs.Rooms.{takes-none, takes-more}
-use Rattle.editions.proofs.Two.{good-label, good-jump, good-defines}
-use Rattle.to_addresses.specs.Moving.{definedIn, nothing, Labelled, labelTo, Sought, Twice, Stands, labelNumberAt, numberAt, movedLine, weighedJump, Weighs, keptAim}
+use Rattle.editions.proofs.Two.{good-jump, good-defines}
+use Rattle.to_addresses.specs.Moving.{definedIn, labelTo, Sought, Twice, Stands, labelNumberAt, numberAt, movedLine, weighedJump, textBy, noteCount, keptNote, Weighs}
 use Rattle.to_addresses.specs.declared.Found.{Found}
 use Rattle.to_addresses.specs.declared.Known.{Known}
 use Rattle.to_addresses.specs.declared.Passed.{Passed}
 use Rattle.to_addresses.specs.declared.Weighed.{Weighed}
 use Rattle.to_addresses.proofs.Judging.{among-first, twice-here}
 use Rattle.to_addresses.proofs.Passing.{part-of}
-use Rattle.to_addresses.proofs.Placing.{plain-size, jump-size}
+use Rattle.to_addresses.proofs.Placing.{plain-size, jump-size, placed-plain, placed-jump}
 use Rattle.to_addresses.proofs.Seeking.{labels-length}
 
 -- ---- room
@@ -45,7 +46,7 @@ three-parts room a b c e = subst (λ (k : ℕ). Takes room k (taken c (taken b (
 
 -- ---- a line as it is told
 
-module _ (text keys places table : List ℕ) (k : Known) (at end : ℕ) (past : Passed) (s : Stands text keys places table k at end past) {told : LineTwo} (t : TellsRow (rowAt text at end) told) where
+module _ (text keys table : List ℕ) (k : Known) (at end : ℕ) (past : Passed) (s : Stands text keys table k at end past) {told : LineTwo} (t : TellsRow (rowAt text at end) told) where
   pub order : at ≤ end
   order = found-order lineFeed at text (s .ends)
 
@@ -59,7 +60,7 @@ module _ (text keys places table : List ℕ) (k : Known) (at end : ℕ) (past : 
   from-inside = omega (arith, t .inside, size, order)
 
   pub weighs-bad : (room : Room) → (told .number ≡ 0 → ⊥)
-      → Weighs (definedIn text (k .from)) (k .words) past (rowAt text at end) room (record { number = told .number; label = told .label; room = room; means = 0 })
+      → Weighs text k at end past room (record { number = told .number; label = told .label; room = room; stop = 0; means = 0 })
   weighs-bad room z =
       record {
         number =
@@ -67,7 +68,7 @@ module _ (text keys places table : List ℕ) (k : Known) (at end : ℕ) (past : 
             ∙ sym (ap (λ (u : Bool). pick (not u) (shapeTwo (rowAt text at end .ended) (fieldsIn (rowAt text at end))) (rest)) (ne-eqb (shapeTwo (rowAt text at end .ended) (fieldsIn (rowAt text at end))) 0 (λ q. z (t .number ∙ q))));
         label = t .label;
         left = λ q. absurd (z q);
-        aim = λ q. absurd (z q);
+        word = λ q. absurd (z q);
       }
     where
       rest : ℕ
@@ -96,16 +97,16 @@ module _ (text keys places table : List ℕ) (k : Known) (at end : ℕ) (past : 
       label-is = part-of text at end (told .from) ∙ t .name z l
 
       pub label-twice : Twice text k (past .labels) (labelTo text (at + told .from) end)
-      label-twice = subst (Twice text k (past .labels)) (sym label-is) (twice-here text keys places table k at end past s (good-defines (rowAt text at end) shape is-line))
+      label-twice = subst (Twice text k (past .labels)) (sym label-is) (twice-here text keys table k at end past s (good-defines (rowAt text at end) shape is-line))
 
       pub weighs-label : (room : Room) {n : ℕ} → n ≡ labelNumberAt (labelsOf (definedIn text (k .from))) (k .words) past (labelTo text (at + told .from) end)
-          → Weighs (definedIn text (k .from)) (k .words) past (rowAt text at end) room (record { number = n; label = true; room = room; means = 0 })
+          → Weighs text k at end past room (record { number = n; label = true; room = room; stop = 0; means = 0 })
       weighs-label room e =
           record {
             number = e ∙ ap (labelNumberAt (labelsOf (definedIn text (k .from))) (k .words) past) label-is ∙ sym (number-by is-line);
             label = sym is-line;
             left = λ q. subst (λ (n : ℕ). Takes room n room) (sym (moved-by is-line)) (takes-none room);
-            aim = λ q e. never (sym is-line ∙ e);
+            word = λ q e. never (sym is-line ∙ e);
           }
 
     module _ (l : told .label ≡ false) where
@@ -114,14 +115,22 @@ module _ (text keys places table : List ℕ) (k : Known) (at end : ℕ) (past : 
 
       -- a word that does not jump
       pub weighs-plain : (room : Room) → told .jump ≡ false → {n : ℕ} → n ≡ length (decimal (past .words))
-          → Weighs (definedIn text (k .from)) (k .words) past (rowAt text at end) room (record { number = 0; label = false; room = taken (end - at) (taken (n + 2) room); means = 0 })
+          → Weighs text k at end past room (record { number = 0; label = false; room = taken (end - at) (taken (n + 2) room); stop = end; means = 0 })
       weighs-plain room j {n = n} e =
           let p : jumpsTwo (fieldsIn (rowAt text at end)) ≡ false = sym (t .jump) ∙ j in
           record {
             number = sym (number-by no-line ∙ ap (λ (u : Bool). pick (u && not (among (targetTwo (fieldsIn (rowAt text at end))) (labelsOf (definedIn text (k .from))))) 67 0) p);
             label = sym no-line;
             left = λ q. two-parts room (n + 2) (end - at) (moved-by no-line ∙ plain-size (definedIn text (k .from)) (past .words) (take (end - at) (drop at text)) p ∙ omega (arith, e, size));
-            aim = λ q f. sym (ap (λ (u : Bool). pick u (meaningIn (definedIn text (k .from)) (targetTwo (fieldsIn (rowAt text at end)))) 0) p);
+            word = λ q f.
+                record {
+                  order = order;
+                  inside = omega arith;
+                  says =
+                      placed-plain (definedIn text (k .from)) (past .words) (take (end - at) (drop at text)) p
+                      ∙ sym (append-assoc (decimal (past .words)) (tab ∷ []) (take (end - at) (drop at text) ++ (lineFeed ∷ [])))
+                      ∙ ap (λ (u : Bool). (decimal (past .words) ++ (tab ∷ [])) ++ (take (end - at) (drop at text) ++ pick u (lineFeed ∷ []) (decimal 0 ++ (lineFeed ∷ [])))) (sym (eq-eqb (end + 1) (end + 1) refl));
+                };
           }
 
       -- a jump
@@ -140,14 +149,30 @@ module _ (text keys places table : List ℕ) (k : Known) (at end : ℕ) (past : 
             (good-jump (rowAt text at end .ended) (fieldsIn (rowAt text at end)) shape jump .1) .1) .1
 
         pub weighs-jump : (room : Room) {found : Found} → Sought (definedIn text (k .from)) (labelTo text (at + told .from) end) found
-            → {r : Weighed} → r ≡ weighedJump room past (told .from) k found → Weighs (definedIn text (k .from)) (k .words) past (rowAt text at end) room r
-        weighs-jump room {found = found} f e = subst (Weighs (definedIn text (k .from)) (k .words) past (rowAt text at end) room) (sym e) (by (leb (k .labels) (found .first)) refl)
+            → {r : Weighed} → r ≡ weighedJump room past at (at + told .from) k found → Weighs text k at end past room r
+        weighs-jump room {found = found} f e = subst (Weighs text k at end past room) (sym e) (by (leb (k .labels) (found .first)) refl)
           where
             first : found .first ≡ firstName (labelsOf (definedIn text (k .from))) (targetTwo (fieldsIn (rowAt text at end)))
             first = f .first ∙ ap (firstName (labelsOf (definedIn text (k .from)))) target-is
 
             means : found .means ≡ meaningIn (definedIn text (k .from)) (targetTwo (fieldsIn (rowAt text at end)))
             means = f .means ∙ ap (meaningIn (definedIn text (k .from))) target-is
+
+            front : take (told .from) (take (end - at) (drop at text)) ≡ take (at + told .from - at) (drop at text)
+            front =
+                let q : told .from ≡ at + told .from - at = omega arith in
+                take-take (told .from) (end - at) (drop at text) (omega (arith, t .inside, size)) ∙ ap (λ (n : ℕ). take n (drop at text)) q
+
+            -- a label has a letter
+            short : at + told .from + 1 ≡ end + 1 → ⊥
+            short q = omega (arith, q, label-some (labelTo text (at + told .from) end) target-label, ap length (part-of text at end (told .from)), length-drop (told .from) (take (end - at) (drop at text)), size)
+
+            jump-text : lineOf (fieldsPlaced (definedIn text (k .from)) (past .words) (fieldsIn (rowAt text at end))) ≡ textBy text (past .words) at (at + told .from) (found .means) (end + 1)
+            jump-text =
+                placed-jump (definedIn text (k .from)) (past .words) (take (end - at) (drop at text)) jump (good-jump (rowAt text at end .ended) (fieldsIn (rowAt text at end)) shape jump .1) {from = told .from} (t .target z j) (t .inside)
+                ∙ sym (append-assoc (decimal (past .words)) (tab ∷ []) (take (told .from) (take (end - at) (drop at text)) ++ (decimal (meaningIn (definedIn text (k .from)) (targetTwo (fieldsIn (rowAt text at end)))) ++ (lineFeed ∷ []))))
+                ∙ ap₂ (λ (p : List ℕ) (m : ℕ). (decimal (past .words) ++ (tab ∷ [])) ++ (p ++ (decimal m ++ (lineFeed ∷ [])))) front (sym means)
+                ∙ ap (λ (u : Bool). (decimal (past .words) ++ (tab ∷ [])) ++ (take (at + told .from - at) (drop at text) ++ pick u (lineFeed ∷ []) (decimal (found .means) ++ (lineFeed ∷ [])))) (sym (ne-eqb (at + told .from + 1) (end + 1) short))
 
             defined : {u : Bool} → ltb (firstName (labelsOf (definedIn text (k .from))) (targetTwo (fieldsIn (rowAt text at end)))) (length (labelsOf (definedIn text (k .from)))) ≡ u
                 → numberAt (labelsOf (definedIn text (k .from))) (k .words) past (rowAt text at end) ≡ pick (not u) 67 0
@@ -156,16 +181,16 @@ module _ (text keys places table : List ℕ) (k : Known) (at end : ℕ) (past : 
                 ∙ ap₂ (λ (u v : Bool). pick (u && not v) 67 0) jump (among-first (labelsOf (definedIn text (k .from))) (targetTwo (fieldsIn (rowAt text at end))) ∙ g)
 
             by : (u : Bool) → leb (k .labels) (found .first) ≡ u
-                → Weighs (definedIn text (k .from)) (k .words) past (rowAt text at end) room
-                (pick u (record { number = 67; label = false; room = room; means = 0 })
-                (record { number = 0; label = false; means = found .means; room = taken (told .from) (taken (length (decimal (found .means))) (taken (length (decimal (past .words)) + 2) room)) }))
+                → Weighs text k at end past room
+                (pick u (record { number = 67; label = false; room = room; stop = 0; means = 0 })
+                (record { number = 0; label = false; stop = at + told .from; means = found .means; room = taken (at + told .from - at) (taken (length (decimal (found .means))) (taken (length (decimal (past .words)) + 2) room)) }))
             by true g =
                 let m = leb-true (k .labels) (found .first) g in
                 record {
                   number = sym (defined (le-ltb (firstName (labelsOf (definedIn text (k .from))) (targetTwo (fieldsIn (rowAt text at end)))) (length (labelsOf (definedIn text (k .from)))) (omega (arith, m, first, s .knows .labels, labels-length (definedIn text (k .from))))));
                   label = sym no-line;
                   left = λ q. absurd (omega (arith, q));
-                  aim = λ q. absurd (omega (arith, q));
+                  word = λ q. absurd (omega (arith, q));
                 }
             by false g =
                 let m = leb-false (k .labels) (found .first) g in
@@ -173,35 +198,35 @@ module _ (text keys places table : List ℕ) (k : Known) (at end : ℕ) (past : 
                   number = sym (defined (lt-ltb (firstName (labelsOf (definedIn text (k .from))) (targetTwo (fieldsIn (rowAt text at end)))) (length (labelsOf (definedIn text (k .from)))) (omega (arith, m, first, s .knows .labels, labels-length (definedIn text (k .from))))));
                   label = sym no-line;
                   left = λ q.
-                      three-parts room (length (decimal (past .words)) + 2) (length (decimal (found .means))) (told .from)
+                      three-parts room (length (decimal (past .words)) + 2) (length (decimal (found .means))) (at + told .from - at)
                       (moved-by no-line
                       ∙ jump-size (definedIn text (k .from)) (past .words) (take (end - at) (drop at text)) jump (good-jump (rowAt text at end .ended) (fieldsIn (rowAt text at end)) shape jump .1) {from = told .from} (t .target z j) (t .inside)
-                      ∙ ap (λ (n : ℕ). length (decimal (past .words)) + 2 + length (decimal n) + told .from) (sym means));
-                  aim = λ q f. means ∙ sym (ap (λ (u : Bool). pick u (meaningIn (definedIn text (k .from)) (targetTwo (fieldsIn (rowAt text at end)))) 0) jump);
+                      ∙ ap₂ (λ (n i : ℕ). length (decimal (past .words)) + 2 + length (decimal n) + i) (sym means) (let q : told .from ≡ at + told .from - at = omega arith in q));
+                  word = λ q f. record { order = omega arith; inside = from-inside; says = jump-text };
                 }
 
 -- ---- as it is done
 
-module _ (room : Room) (past : Passed) (size : ℕ) (k : Known) (found : Found) where
+module _ (room : Room) (past : Passed) (at stop : ℕ) (k : Known) (found : Found) where
   weighed-by : Bool → Weighed
   weighed-by t =
-      pick t (record { number = 67; label = false; room = room; means = 0 })
-      (record { number = 0; label = false; means = found .means; room = taken size (taken (length (decimal (found .means))) (taken (length (decimal (past .words)) + 2) room)) })
+      pick t (record { number = 67; label = false; room = room; stop = 0; means = 0 })
+      (record { number = 0; label = false; stop = stop; means = found .means; room = taken (stop - at) (taken (length (decimal (found .means))) (taken (length (decimal (past .words)) + 2) room)) })
 
-  pub jump-none : k .labels ≤ found .first → record { number = 67; label = false; room = room; means = 0 } ≡ weighedJump room past size k found
+  pub jump-none : k .labels ≤ found .first → record { number = 67; label = false; room = room; stop = 0; means = 0 } ≡ weighedJump room past at stop k found
   unfolding weighed-by
   jump-none l = sym (ap weighed-by (le-leb (k .labels) (found .first) l))
 
-  pub jump-some : found .first < k .labels → {n m : ℕ} → n ≡ length (decimal (past .words)) → m ≡ length (decimal (found .means)) → {x y z : Room} → x ≡ taken (n + 2) room → y ≡ taken m x → z ≡ taken size y
-      → record { number = 0; label = false; room = z; means = found .means } ≡ weighedJump room past size k found
+  pub jump-some : found .first < k .labels → {n m : ℕ} → n ≡ length (decimal (past .words)) → m ≡ length (decimal (found .means)) → {x y z : Room} → x ≡ taken (n + 2) room → y ≡ taken m x → z ≡ taken (stop - at) y
+      → record { number = 0; label = false; room = z; stop = stop; means = found .means } ≡ weighedJump room past at stop k found
   unfolding weighed-by
   jump-some l e f {z = z} p q r =
       ap (λ (w : Room). weighed-of w)
-      (r ∙ ap (taken size) (q ∙ (λ i. taken (f i) (p i)) ∙ ap (λ (j : ℕ). taken (length (decimal (found .means))) (taken (j + 2) room)) e))
+      (r ∙ ap (taken (stop - at)) (q ∙ (λ i. taken (f i) (p i)) ∙ ap (λ (j : ℕ). taken (length (decimal (found .means))) (taken (j + 2) room)) e))
       ∙ sym (ap weighed-by (lt-leb (k .labels) (found .first) l))
     where
       weighed-of : Room → Weighed
-      weighed-of w = record { number = 0; label = false; room = w; means = found .means }
+      weighed-of w = record { number = 0; label = false; room = w; stop = stop; means = found .means }
 
 -- doubled, or no word behind it, or nothing
 module _ (labels : List (List ℕ)) (words : ℕ) (past : Passed) (label : List ℕ) where
@@ -225,13 +250,30 @@ module _ (labels : List (List ℕ)) (words : ℕ) (past : Passed) (label : List 
 pub plain-room : (room : Room) {x y : Room} (n size : ℕ) → x ≡ taken (n + 2) room → y ≡ taken size x → y ≡ taken size (taken (n + 2) room)
 plain-room room n size p q = q ∙ ap (taken size) p
 
--- what the label of a word means, kept or not
-module _ (aims : List ℕ) {label : Bool} (a means : ℕ) where
-  pub aim-none : label ≡ true → aims ≡ keptAim aims label a means
-  aim-none e = sym (ap (λ (t : Bool). keptAim aims t a means) e)
+-- a note that is not kept, and one that is
+module _ (notes : List ℕ) (a at : ℕ) (told : Weighed) (next : ℕ) where
+  note-by : Bool → Bool → List ℕ
+  note-by t u = pick t notes (pick u notes (set (set (set (set notes (4 * a) at) (4 * a + 1) (told .stop)) (4 * a + 2) (told .means)) (4 * a + 3) next))
 
-  pub aim-here : label ≡ false → set aims a means ≡ keptAim aims label a means
-  aim-here e = sym (ap (λ (t : Bool). keptAim aims t a means) e)
+  pub note-none : told .label ≡ true → notes ≡ keptNote notes a at told next
+  unfolding note-by
+  note-none e = sym (ap (λ (t : Bool). note-by t (leb (noteCount notes) a)) e)
 
-  pub aim-out : label ≡ false → length aims ≤ a → aims ≡ keptAim aims label a means
-  aim-out e l = sym (set-out aims a means l) ∙ aim-here e
+  module _ (e : told .label ≡ false) where
+    pub note-out : noteCount notes ≤ a → notes ≡ keptNote notes a at told next
+    unfolding note-by
+    note-out l = sym (ap₂ note-by e (le-leb (noteCount notes) a l))
+
+    pub note-here : a < noteCount notes
+        → set (set (set (set notes (4 * a) at) (4 * a + 1) (told .stop)) (4 * a + 2) (told .means)) (4 * a + 3) next ≡ keptNote notes a at told next
+    unfolding note-by
+    note-here l = sym (ap₂ note-by e (lt-leb (noteCount notes) a l))
+
+pub note-sizes : (notes : List ℕ) (a at stop means : ℕ)
+    → (length (set notes (4 * a) at) ≡ length notes)
+    × (length (set (set notes (4 * a) at) (4 * a + 1) stop) ≡ length notes)
+    × (length (set (set (set notes (4 * a) at) (4 * a + 1) stop) (4 * a + 2) means) ≡ length notes)
+note-sizes notes a at stop means =
+    let p = length-set notes (4 * a) at in
+    let q = length-set (set notes (4 * a) at) (4 * a + 1) stop ∙ p in
+    (p, q, length-set (set (set notes (4 * a) at) (4 * a + 1) stop) (4 * a + 2) means ∙ q)

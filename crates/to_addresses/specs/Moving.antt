@@ -1,5 +1,5 @@
 -- What the functions of the move ask and promise, line by line and over all lines: it carries the code, and needs no belief.
-use Prim.Native.Nat.{ℕ, _+_, _-_, _*_, _^_, _≤_, _<_}
+use Prim.Native.Nat.{ℕ, zero, suc, _+_, _-_, _*_, _/_, _^_, _≤_, _<_}
 use mathlib.Core.Path.{_≡_}
 use mathlib.Core.Bool.{Bool, true, false, not}
 use mathlib.Core.List.{List, [], _∷_, _++_}
@@ -9,12 +9,12 @@ use Rattle.instruction.specs.Bits.{pick, _gives_else_}
 use Rattle.instruction.specs.Form.{filled}
 use Rattle.buffer.specs.Put.{Fits, Put}
 use Rattle.text.specs.Line.{decimal}
-use Rattle.text.specs.Cut.{lineFeed, placeOf, Row, rowAt, rowsIn, fieldsIn}
+use Rattle.text.specs.Cut.{tab, lineFeed, placeOf, Row, rowAt, rowsIn, fieldsIn}
 use Rattle.label.specs.Label.{firstName, isLabel}
 use Rattle.label.specs.First.{IsDouble}
-use Rattle.label.specs.Key.{keyOf, keyAt, count, Holds, Looked}
+use Rattle.label.specs.Key.{keyOf, keyAt, meansAt, count, Holds, Looked}
 use Rattle.label.specs.declared.Key.{Key}
-use Rattle.editions.specs.Editions.{isLabelLine, labelIn, lineOf, jumpsTwo, targetTwo, wordNumber, defines}
+use Rattle.editions.specs.Editions.{isLabelLine, labelIn, lineOf, wordNumber, defines}
 use Rattle.listing.specs.Listing.{headOf}
 use Rattle.editions.specs.Moves.{refusedAt, Moves, Definition, definedFrom, labelsOf, meaningIn, judgedTwo, fieldsPlaced, addressedFrom}
 use Rattle.editions.specs.Told.{shapeTwo, taken, Takes}
@@ -33,6 +33,10 @@ use Rattle.to_addresses.specs.declared.Weighed.{Weighed}
 -- from a place on
 abbrev pub rowsFrom : List ℕ → ℕ → List Row
 rowsFrom text from = rowsIn (drop from text)
+
+-- the first of them
+abbrev pub rowHere : List ℕ → ℕ → Row
+rowHere text at = rowAt text at (placeOf lineFeed at text)
 
 -- what they define
 abbrev pub definedIn : List ℕ → ℕ → List Definition
@@ -93,25 +97,20 @@ pub record Along (text : List ℕ) (from at : ℕ) (past : Passed) : Type 0 wher
 
 -- ---- what is kept of labels
 
-abbrev pub keptKey : List ℕ → ℕ → Key → List ℕ
-keptKey keys j k = pick (leb (count keys) j) keys (set (set keys (2 * j) (k .lo)) (2 * j + 1) (k .hi))
+abbrev pub keptLabel : List ℕ → ℕ → Key → ℕ → List ℕ
+keptLabel keys j k a = pick (leb (count keys) j) keys (set (set (set keys (3 * j) (k .lo)) (3 * j + 1) (k .hi)) (3 * j + 2) a)
 
-pub record CollectsRow (text : List ℕ) (end : ℕ) (line : Defining) (past : Passed) (keys keys′ places places′ : List ℕ) : Type 0 where
-  pub kept : keys′ ≡ pick (definesIn line) (keptKey keys (past .labels) (keyOf (labelTo text (line .from) end))) keys
-  pub placed : places′ ≡ pick (definesIn line) (set places (past .labels) (past .words)) places
+abbrev pub collectedRow : List ℕ → ℕ → Defining → Passed → List ℕ → List ℕ
+collectedRow text end line past keys = pick (definesIn line) (keptLabel keys (past .labels) (keyOf (labelTo text (line .from) end)) (past .words)) keys
 
 -- the first n, as far as there is room
-abbrev pub KeptKeys : List ℕ → List Definition → ℕ → Type 0
-KeptKeys keys ds n = (j : ℕ) → j < n → j < count keys → keyAt keys j ≡ keyOf (getD ds j nothing .called)
+abbrev pub Kept : List ℕ → List Definition → ℕ → Type 0
+Kept keys ds n = (j : ℕ) → j < n → j < count keys → (keyAt keys j ≡ keyOf (getD ds j nothing .called)) × (meansAt keys j ≡ getD ds j nothing .means)
 
-abbrev pub KeptPlaces : List ℕ → List Definition → ℕ → Type 0
-KeptPlaces places ds n = (j : ℕ) → j < n → j < length places → getD places j 0 ≡ getD ds j nothing .means
-
-pub record Collected (text : List ℕ) (from : ℕ) (keys places : List ℕ) (r : Passed) : Type 0 where
+pub record Collected (text : List ℕ) (from : ℕ) (keys : List ℕ) (r : Passed) : Type 0 where
   pub labels : r .labels ≡ length (definedIn text from)
   pub words : r .words ≡ wordCount (rowsFrom text from)
-  pub kept : KeptKeys keys (definedIn text from) (r .labels)
-  pub placed : KeptPlaces places (definedIn text from) (r .labels)
+  pub kept : Kept keys (definedIn text from) (r .labels)
 
 -- ---- looking for a label
 
@@ -121,12 +120,11 @@ pub record Sought (ds : List Definition) (name : List ℕ) (r : Found) : Type 0 
   pub means : r .means ≡ meaningIn ds name
 
 -- what is known of a text's labels is so
-pub record Knows (text keys places table : List ℕ) (k : Known) : Type 0 where
+pub record Knows (text keys table : List ℕ) (k : Known) : Type 0 where
   pub labels : k .labels ≡ length (definedIn text (k .from))
   pub words : k .words ≡ wordCount (rowsFrom text (k .from))
   pub holds : k .ready ≡ true → Holds (labelsOf (definedIn text (k .from))) keys
-  pub many : k .ready ≡ true → length places ≡ length (definedIn text (k .from))
-  pub placed : k .ready ≡ true → KeptPlaces places (definedIn text (k .from)) (length places)
+  pub means : k .ready ≡ true → (j : ℕ) → j < count keys → meansAt keys j ≡ getD (definedIn text (k .from)) j nothing .means
   pub looked : k .ready ≡ true → Looked keys table
   pub double : k .ready ≡ true → IsDouble (λ i. getD (labelsOf (definedIn text (k .from))) i []) (length (definedIn text (k .from))) (k .double)
 
@@ -140,8 +138,8 @@ pub record Twice (text : List ℕ) (k : Known) (j : ℕ) (name : List ℕ) : Typ
   pub is : getD (definedIn text (k .from)) j nothing .called ≡ name
 
 -- a line from a place to its end, where all lines before are good
-pub record Stands (text keys places table : List ℕ) (k : Known) (at end : ℕ) (past : Passed) : Type 0 where
-  pub knows : Knows text keys places table k
+pub record Stands (text keys table : List ℕ) (k : Known) (at end : ℕ) (past : Passed) : Type 0 where
+  pub knows : Knows text keys table k
   pub along : Along text (k .from) at past
   pub single : k .ready ≡ true → past .labels ≤ k .double
   pub here : at < length text
@@ -161,75 +159,132 @@ numberAt labels words past row =
 abbrev pub movedLine : List Definition → ℕ → Row → List ℕ
 movedLine ds a row = pick (isLabelLine (fieldsIn row)) [] (lineOf (fieldsPlaced ds a (fieldsIn row)))
 
--- the address that the label of a word means; 0 of a word that has none
-abbrev pub aimOf : List Definition → Row → ℕ
-aimOf ds row = pick (jumpsTwo (fieldsIn row)) (meaningIn ds (targetTwo (fieldsIn row))) 0
+abbrev pub weighedJump : Room → Passed → ℕ → ℕ → Known → Found → Weighed
+weighedJump room past at stop k found =
+    pick (leb (k .labels) (found .first)) (record { number = 67; label = false; room = room; stop = 0; means = 0 })
+    (record { number = 0; label = false; stop = stop; means = found .means; room = taken (stop - at) (taken (length (decimal (found .means))) (taken (length (decimal (past .words)) + 2) room)) })
 
-abbrev pub aimsFrom : List Definition → List Row → List ℕ
-aimsFrom ds [] = []
-aimsFrom ds (row ∷ rows) = pick (isLabelLine (fieldsIn row)) (aimsFrom ds rows) (aimOf ds row ∷ aimsFrom ds rows)
+-- ---- what is noted of a word
 
-abbrev pub weighedJump : Room → Passed → ℕ → Known → Found → Weighed
-weighedJump room past size k found =
-    pick (leb (k .labels) (found .first)) (record { number = 67; label = false; room = room; means = 0 })
-    (record { number = 0; label = false; means = found .means; room = taken size (taken (length (decimal (found .means))) (taken (length (decimal (past .words)) + 2) room)) })
+-- its line: what stands from a place to where it stops, and the address that its label means where that is not its end
+abbrev pub textBy : List ℕ → ℕ → ℕ → ℕ → ℕ → ℕ → List ℕ
+textBy text a start stop means next =
+    (decimal a ++ (tab ∷ [])) ++ (take (stop - start) (drop start text) ++ pick (eqb (stop + 1) next) (lineFeed ∷ []) (decimal means ++ (lineFeed ∷ [])))
 
-pub record Weighs (ds : List Definition) (words : ℕ) (past : Passed) (row : Row) (room : Room) (r : Weighed) : Type 0 where
-  pub number : r .number ≡ numberAt (labelsOf ds) words past row
-  pub label : r .label ≡ isLabelLine (fieldsIn row)
-  pub left : r .number ≡ 0 → Takes room (length (movedLine ds (past .words) row)) (r .room)
-  pub aim : r .number ≡ 0 → isLabelLine (fieldsIn row) ≡ false → r .means ≡ aimOf ds row
+-- four numbers for each word
+abbrev pub noteCount : List ℕ → ℕ
+noteCount notes = length notes / 4
 
-abbrev pub keptAim : List ℕ → Bool → ℕ → ℕ → List ℕ
-keptAim aims label a means = pick label aims (set aims a means)
+abbrev pub startIn : List ℕ → ℕ → ℕ
+startIn notes a = getD notes (4 * a) 0
 
--- what was kept of the labels of words, as far as there was room
-abbrev pub KeptAims : List ℕ → List Definition → List Row → Type 0
-KeptAims aims ds rows = (a : ℕ) → a < length (aimsFrom ds rows) → a < length aims → getD aims a 0 ≡ getD (aimsFrom ds rows) a 0
+abbrev pub stopIn : List ℕ → ℕ → ℕ
+stopIn notes a = getD notes (4 * a + 1) 0
+
+abbrev pub meansIn : List ℕ → ℕ → ℕ
+meansIn notes a = getD notes (4 * a + 2) 0
+
+abbrev pub nextIn : List ℕ → ℕ → ℕ
+nextIn notes a = getD notes (4 * a + 3) 0
+
+abbrev pub noteLine : List ℕ → List ℕ → ℕ → List ℕ
+noteLine text notes a = textBy text a (startIn notes a) (stopIn notes a) (meansIn notes a) (nextIn notes a)
+
+-- the place behind the words before one
+abbrev pub behindIn : ℕ → List ℕ → ℕ → ℕ
+behindIn from notes zero = from
+behindIn from notes (suc a) = nextIn notes a
+
+abbrev pub keptNote : List ℕ → ℕ → ℕ → Weighed → ℕ → List ℕ
+keptNote notes a at told next =
+    pick (told .label) notes
+    (pick (leb (noteCount notes) a) notes (set (set (set (set notes (4 * a) at) (4 * a + 1) (told .stop)) (4 * a + 2) (told .means)) (4 * a + 3) next))
+
+-- a word's note is so
+pub record Note (text : List ℕ) (from : ℕ) (start stop means next behind a : ℕ) : Type 0 where
+  pub order : start ≤ stop
+  pub inside : stop ≤ length text
+  pub few : a < next
+  pub moves : addressedFrom (definedIn text from) a (rowsFrom text behind) ≡ textBy text a start stop means next ++ addressedFrom (definedIn text from) (a + 1) (rowsFrom text next)
+  pub labels : List (List ℕ)
+  pub line : ℕ
+  pub same : judgedTwo (labelsOf (definedIn text from)) labels line (rowsFrom text next) ≡ judgedTwo (labelsOf (definedIn text from)) [] 2 (rowsFrom text from)
+
+abbrev pub NoteIn : List ℕ → ℕ → List ℕ → ℕ → Type 0
+NoteIn text from notes a = Note text from (startIn notes a) (stopIn notes a) (meansIn notes a) (nextIn notes a) (behindIn from notes a) a
+
+-- the first n, as far as there is room
+abbrev pub Notes : List ℕ → ℕ → List ℕ → ℕ → Type 0
+Notes text from notes n = (a : ℕ) → a < n → a < noteCount notes → NoteIn text from notes a
+
+-- ---- a line weighed, and all of them
+
+pub record WordIs (text : List ℕ) (k : Known) (at end : ℕ) (past : Passed) (r : Weighed) : Type 0 where
+  pub order : at ≤ r .stop
+  pub inside : r .stop ≤ end
+  pub says : lineOf (fieldsPlaced (definedIn text (k .from)) (past .words) (fieldsIn (rowAt text at end))) ≡ textBy text (past .words) at (r .stop) (r .means) (end + 1)
+
+pub record Weighs (text : List ℕ) (k : Known) (at end : ℕ) (past : Passed) (room : Room) (r : Weighed) : Type 0 where
+  pub number : r .number ≡ numberAt (labelsOf (definedIn text (k .from))) (k .words) past (rowAt text at end)
+  pub label : r .label ≡ isLabelLine (fieldsIn (rowAt text at end))
+  pub left : r .number ≡ 0 → Takes room (length (movedLine (definedIn text (k .from)) (past .words) (rowAt text at end))) (r .room)
+  pub word : r .number ≡ 0 → isLabelLine (fieldsIn (rowAt text at end)) ≡ false → WordIs text k at end past r
 
 -- the first bad line, or the room that what they move to leaves
-pub record Judges (ds : List Definition) (rows : List Row) (room : Room) (aims : List ℕ) (r : Judged) : Type 0 where
-  pub told : refusedAt (r .number) (r .line) ≡ judgedTwo (labelsOf ds) [] 2 rows
-  pub left : r .number ≡ 0 → Takes room (length (addressedFrom ds 0 rows)) (r .room)
-  pub kept : r .number ≡ 0 → KeptAims aims ds rows
+pub record Judges (text : List ℕ) (from : ℕ) (room : Room) (notes : List ℕ) (r : Judged) : Type 0 where
+  pub told : refusedAt (r .number) (r .line) ≡ judgedTwo (labelsOf (definedIn text from)) [] 2 (rowsFrom text from)
+  pub left : r .number ≡ 0 → Takes room (length (addressedFrom (definedIn text from) 0 (rowsFrom text from))) (r .room)
+  pub kept : r .number ≡ 0 → Notes text from notes (wordCount (rowsFrom text from))
 
 -- ---- writing
 
--- a label of word a, and what was kept of it
-pub record Aimed (text keys places table : List ℕ) (k : Known) (aims : List ℕ) (a : ℕ) (name : List ℕ) : Type 0 where
-  pub knows : Knows text keys places table k
-  pub shaped : isLabel name ≡ true
-  pub kept : a < length aims → getD aims a 0 ≡ meaningIn (definedIn text (k .from)) name
-
 -- a line that has its shape, with room for what it moves to
-pub record Layable (text keys places table : List ℕ) (k : Known) (aims : List ℕ) (at end : ℕ) (out : List ℕ) (laid : Laid) : Type 0 where
-  pub knows : Knows text keys places table k
-  pub here : at < length text
-  pub ends : end ≡ placeOf lineFeed at text
-  pub shape : shapeTwo (rowAt text at end .ended) (fieldsIn (rowAt text at end)) ≡ 0
+pub record Layable (text keys table : List ℕ) (k : Known) (out : List ℕ) (laid : Laid) : Type 0 where
+  pub knows : Knows text keys table k
+  pub here : laid .at < length text
+  pub shape : shapeTwo (rowHere text (laid .at) .ended) (fieldsIn (rowHere text (laid .at))) ≡ 0
   pub few : laid .words + 1 < 2 ^ 64
-  pub aim : isLabelLine (fieldsIn (rowAt text at end)) ≡ false → laid .words < length aims → getD aims (laid .words) 0 ≡ aimOf (definedIn text (k .from)) (rowAt text at end)
-  pub fits : Fits (movedLine (definedIn text (k .from)) (laid .words) (rowAt text at end)) out (laid .place)
+  pub fits : Fits (movedLine (definedIn text (k .from)) (laid .words) (rowHere text (laid .at))) out (laid .place)
 
-pub record LaysRow (ds : List Definition) (row : Row) (before : List ℕ) (laid : Laid) (after : List ℕ) (r : Laid) : Type 0 where
-  pub puts : Put (movedLine ds (laid .words) row) before (laid .place) after (r .place)
-  pub counts : r .words ≡ pick (isLabelLine (fieldsIn row)) (laid .words) (laid .words + 1)
+pub record LaysRow (text : List ℕ) (from : ℕ) (before : List ℕ) (laid : Laid) (after : List ℕ) (r : Laid) : Type 0 where
+  pub puts : Put (movedLine (definedIn text from) (laid .words) (rowHere text (laid .at))) before (laid .place) after (r .place)
+  pub counts : r .words ≡ pick (isLabelLine (fieldsIn (rowHere text (laid .at)))) (laid .words) (laid .words + 1)
+  pub behind : r .at ≡ placeOf lineFeed (laid .at) text + 1
 
--- lines that are all good, with room for what they move to
-pub record LayableAll (text keys places table : List ℕ) (k : Known) (aims out : List ℕ) (start : ℕ) : Type 0 where
-  pub knows : Knows text keys places table k
-  pub kept : KeptAims aims (definedIn text (k .from)) (rowsFrom text (k .from))
+-- a word by its note
+pub record Noted (text notes out : List ℕ) (laid : Laid) : Type 0 where
+  pub kept : laid .words < noteCount notes
+  pub order : startIn notes (laid .words) ≤ stopIn notes (laid .words)
+  pub inside : stopIn notes (laid .words) ≤ length text
+  pub fits : Fits (noteLine text notes (laid .words)) out (laid .place)
+
+pub record LaysNoted (text notes before : List ℕ) (laid : Laid) (after : List ℕ) (r : Laid) : Type 0 where
+  pub puts : Put (noteLine text notes (laid .words)) before (laid .place) after (r .place)
+  pub counts : r .words ≡ laid .words + 1
+  pub behind : r .at ≡ nextIn notes (laid .words)
+
+-- lines from a place on that are all good, with room for what they move to
+pub record LayableFrom (text keys table : List ℕ) (k : Known) (out : List ℕ) (start : Laid) : Type 0 where
+  pub knows : Knows text keys table k
+  pub few : start .words ≤ start .at
+  pub labels : List (List ℕ)
+  pub line : ℕ
+  pub good : judgedTwo (labelsOf (definedIn text (k .from))) labels line (rowsFrom text (start .at)) .number ≡ 0
+  pub fits : Fits (addressedFrom (definedIn text (k .from)) (start .words) (rowsFrom text (start .at))) out (start .place)
+
+-- all lines
+pub record LayableAll (text keys table : List ℕ) (k : Known) (notes out : List ℕ) (start : ℕ) : Type 0 where
+  pub knows : Knows text keys table k
+  pub noted : Notes text (k .from) notes (k .words)
   pub good : judgedTwo (labelsOf (definedIn text (k .from))) [] 2 (rowsFrom text (k .from)) .number ≡ 0
   pub fits : Fits (addressedFrom (definedIn text (k .from)) 0 (rowsFrom text (k .from))) out start
 
 -- ---- all of it
 
 -- what was collected, as far as there was room
-pub record Parts (text : List ℕ) (from : ℕ) (keys places : List ℕ) (end : Passed) : Type 0 where
+pub record Parts (text : List ℕ) (from : ℕ) (keys : List ℕ) (end : Passed) : Type 0 where
   pub head : from ≡ length (headOf 1)
-  pub collected : Collected text from keys places end
-  pub many : length keys ≡ 2 * length places
-  pub few : length places ≤ end .labels
+  pub collected : Collected text from keys end
 
 -- lines from a place on, judged and then written whole or not at all
 abbrev pub Finishes : List ℕ → ℕ → List ℕ → List ℕ → Moved → Type 0

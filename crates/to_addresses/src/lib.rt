@@ -5,14 +5,13 @@ ghost use mathlib.Core.Bool.{true, _&&_};
 ghost use mathlib.Core.List.{[], _∷_, _++_};
 ghost use Prim.Native.Nat.{_≤_, _<_, _+_};
 ghost use lib.Dec.{ltb};
-ghost use lib.ListN.{length, getD, set};
+ghost use lib.ListN.{length};
 ghost use Rattle.buffer.specs.Put.{Fits, Put};
-ghost use Rattle.text.specs.Cut.{tab, lineFeed, placeOf, rowAt, sameText};
+ghost use Rattle.text.specs.Cut.{tab, lineFeed, placeOf, sameText};
 ghost use Rattle.text.specs.Line.{decimal};
 ghost use Rattle.label.specs.Label.{isLabel, firstName};
-ghost use Rattle.editions.specs.Told.{Takes};
-ghost use Rattle.editions.specs.Moves.{labelsOf, meaningIn, addressedFrom, ToAddresses};
-ghost use Rattle.to_addresses.specs.Moving.{rowsFrom, definedIn, labelTo, Few, passedBy, definesIn, Labelled, DefinesAt, keptKey, CollectsRow, Collected, Sought, Knows, Twice, Stands, labelNumberAt, weighedJump, Weighs, keptAim, Judges, Aimed, Layable, LaysRow, LayableAll, Parts, Finishes};
+ghost use Rattle.editions.specs.Moves.{labelsOf, addressedFrom, ToAddresses};
+ghost use Rattle.to_addresses.specs.Moving.{rowsFrom, definedIn, labelTo, Few, passedBy, definesIn, Labelled, DefinesAt, keptLabel, collectedRow, Collected, Sought, Knows, Twice, Stands, labelNumberAt, weighedJump, Weighs, keptNote, Judges, Layable, LaysRow, Noted, LaysNoted, LayableFrom, LayableAll, Parts, Finishes};
 use editions::LineTwo;
 use editions::Moved;
 use editions::Room;
@@ -23,6 +22,7 @@ use editions::row_two;
 use label::Key;
 use label::index::Sight;
 use label::index::Table;
+use label::index::means_at;
 use label::index::prepare;
 use label::index::seek;
 use label::pack;
@@ -50,8 +50,14 @@ impl Addresses {
     // A label is not defined.
     pub const NOT_DEFINED: u64 = 67;
 
-    // Two numbers for each label that the table takes.
-    const NUMBERS: usize = 131072;
+    // All numbers of as many labels as the table takes.
+    const NUMBERS: usize = Table::NUMBERS * Table::LABELS;
+
+    // Words of which a note is kept: as many as the longest sequence has.
+    const NOTES: usize = 65536;
+
+    // Numbers of a note: where the word's line starts, where it stops or its label starts, what the label means, and the place behind the line.
+    const NOTE: usize = 4;
 
     // What stands in a line beside its address and its fields: the tab behind the address, and the line feed.
     const TAB_AND_END: usize = 2;
@@ -125,51 +131,35 @@ fn pass(past: Passed, defines: bool, word: bool) -> Passed
     past
 }
 
-// The numbers of label j kept, where there is room.
-fn keep_key(keys: &mut [u64], j: usize, k: Key)
-    ensures { λ _. ⌜ now (keys .exit) ≡ keptKey (now (keys .entry)) j k ⌝ }
+// The numbers of label j kept, and the address that it means, where there is room.
+fn keep_label(keys: &mut [u64], j: usize, k: Key, a: usize)
+    ensures { λ _. ⌜ now (keys .exit) ≡ keptLabel (now (keys .entry)) j k a ⌝ }
 {
-    if keys.len() / 2 <= j {
+    if keys.len() / Table::NUMBERS <= j {
         return;
     }
-    keys[2 * j] = k.lo;
-    keys[2 * j + 1] = k.hi;
-}
-
-// The address that label j means kept, where there is room.
-fn keep_place(places: &mut [u64], j: usize, a: usize)
-    ensures { λ _. ⌜ now (places .exit) ≡ set (now (places .entry)) j a ⌝ }
-{
-    if places.len() <= j {
-        return;
-    }
-    places[j] = a as u64;
+    let from = Table::NUMBERS * j;
+    keys[from] = k.lo;
+    keys[from + 1] = k.hi;
+    keys[from + 2] = a as u64;
 }
 
 // A label that a line defines kept.
-fn collect_row(
-    text: &[u8],
-    end: usize,
-    line: Defining,
-    past: Passed,
-    keys: &mut [u64],
-    places: &mut [u64],
-)
+fn collect_row(text: &[u8], end: usize, line: Defining, past: Passed, keys: &mut [u64])
     requires { ⌜ (definesIn line ≡ true → Labelled (now text) (line .from) end) ⌝ }
-    ensures { λ _. ⌜ CollectsRow (now (text .entry)) end line past (now (keys .entry)) (now (keys .exit)) (now (places .entry)) (now (places .exit)) ⌝ }
+    ensures { λ _. ⌜ now (keys .exit) ≡ collectedRow (now (text .entry)) end line past (now (keys .entry)) ⌝ }
 {
     let from = line.from;
     if from == 0 {
         return;
     }
     let k = pack(&text[from..end]);
-    keep_key(keys, past.labels, k);
-    keep_place(places, past.labels, past.words);
+    keep_label(keys, past.labels, k, past.words);
 }
 
 // The labels and the addresses that they mean, as far as there is room; how many labels and words there are.
-fn collect(text: &[u8], from: usize, keys: &mut [u64], places: &mut [u64]) -> Passed
-    ensures { λ r. ⌜ Collected (now (text .entry)) from (now (keys .exit)) (now (places .exit)) r ⌝ }
+fn collect(text: &[u8], from: usize, keys: &mut [u64]) -> Passed
+    ensures { λ r. ⌜ Collected (now (text .entry)) from (now (keys .exit)) r ⌝ }
 {
     let mut at = from;
     let mut past = Passed {
@@ -179,7 +169,7 @@ fn collect(text: &[u8], from: usize, keys: &mut [u64], places: &mut [u64]) -> Pa
     while at < text.len() {
         let end = find(text, at, b'\n');
         let line = defined_at(text, at, end);
-        collect_row(text, end, line, past, keys, places);
+        collect_row(text, end, line, past, keys);
         past = pass(past, line.from != 0, line.word);
         at = end + 1;
     }
@@ -242,15 +232,8 @@ struct Known {
 }
 
 // A label looked for in the table, or line by line where that is not to be used.
-fn find_label(
-    text: &[u8],
-    keys: &[u64],
-    places: &[u64],
-    table: &[u32],
-    known: Known,
-    name: &[u8],
-) -> Found
-    requires { ⌜ Knows (now text) (now keys) (now places) (now table) known × (isLabel (now name) ≡ true) ⌝ }
+fn find_label(text: &[u8], keys: &[u64], table: &[u32], known: Known, name: &[u8]) -> Found
+    requires { ⌜ Knows (now text) (now keys) (now table) known × (isLabel (now name) ≡ true) ⌝ }
     ensures { λ r. ⌜ Sought (definedIn (now (text .entry)) (known .from)) (now (name .entry)) r ⌝ }
 {
     if !known.ready {
@@ -258,13 +241,11 @@ fn find_label(
     }
     let k = pack(name);
     let first = seek(keys, table, k);
-    if places.len() <= first {
+    if keys.len() / Table::NUMBERS <= first {
         return Found { first, means: 0 };
     }
-    Found {
-        first,
-        means: places[first],
-    }
+    let means = means_at(keys, first);
+    Found { first, means }
 }
 
 // Whether label j, which is this one, stood before.
@@ -293,33 +274,46 @@ fn label_number(text: &[u8], known: Known, past: Passed, name: &[u8]) -> u64
     0
 }
 
-// What is told of a line: whether it is a label line, what is wrong with it, and where nothing is the room that is left, and the address
-// that the label of a jump means.
+// What is told of a line: whether it is a label line, what is wrong with it, and where nothing is the room that is left, where the line
+// stops or the label of a jump starts, and the address that this means.
 struct Weighed {
     number: u64,
     label: bool,
     room: Room,
+    stop: usize,
     means: u64,
 }
 
 // A jump that has its shape, of so many bytes up to its label: what is wrong with that, and the room that is left.
-fn weigh_jump(room: Room, past: Passed, size: usize, known: Known, found: Found) -> Weighed
-    ensures { λ r. ⌜ r ≡ weighedJump room past size known found ⌝ }
+fn weigh_jump(
+    room: Room,
+    past: Passed,
+    at: usize,
+    stop: usize,
+    known: Known,
+    found: Found,
+) -> Weighed
+    requires { ⌜ at ≤ stop ⌝ }
+    ensures { λ r. ⌜ r ≡ weighedJump room past at stop known found ⌝ }
 {
     if known.labels <= found.first {
         return Weighed {
             number: Addresses::NOT_DEFINED,
             label: false,
             room,
+            stop: 0,
             means: 0,
         };
     }
     let address = digit_count(past.words as u64) + Addresses::TAB_AND_END;
-    let left = room.take(address).take(digit_count(found.means)).take(size);
+    let left = room.take(address)
+        .take(digit_count(found.means))
+        .take(stop - at);
     Weighed {
         number: 0,
         label: false,
         room: left,
+        stop,
         means: found.means,
     }
 }
@@ -328,7 +322,6 @@ fn weigh_jump(room: Room, past: Passed, size: usize, known: Known, found: Found)
 fn weigh(
     text: &[u8],
     keys: &[u64],
-    places: &[u64],
     table: &[u32],
     known: Known,
     at: usize,
@@ -336,8 +329,8 @@ fn weigh(
     past: Passed,
     room: Room,
 ) -> Weighed
-    requires { ⌜ Stands (now text) (now keys) (now places) (now table) known at end past ⌝ }
-    ensures { λ r. ⌜ Weighs (definedIn (now (text .entry)) (known .from)) (known .words) past (rowAt (now (text .entry)) at end) room r ⌝ }
+    requires { ⌜ Stands (now text) (now keys) (now table) known at end past ⌝ }
+    ensures { λ r. ⌜ Weighs (now (text .entry)) known at end past room r ⌝ }
 {
     let told = row_two(text, at, end);
     if told.number != 0 {
@@ -345,6 +338,7 @@ fn weigh(
             number: told.number,
             label: told.label,
             room,
+            stop: 0,
             means: 0,
         };
     }
@@ -355,12 +349,13 @@ fn weigh(
             number,
             label: true,
             room,
+            stop: 0,
             means: 0,
         };
     }
     if told.jump {
-        let found = find_label(text, keys, places, table, known, &text[from..end]);
-        return weigh_jump(room, past, told.from, known, found);
+        let found = find_label(text, keys, table, known, &text[from..end]);
+        return weigh_jump(room, past, at, from, known, found);
     }
     let left = room.take(digit_count(past.words as u64) + Addresses::TAB_AND_END)
         .take(end - at);
@@ -368,6 +363,7 @@ fn weigh(
         number: 0,
         label: false,
         room: left,
+        stop: end,
         means: 0,
     }
 }
@@ -379,31 +375,34 @@ struct Judged {
     room: Room,
 }
 
-// The address that the label of word a means kept, where there is room; a label line has no word.
-fn keep_aim(aims: &mut [u64], label: bool, a: usize, means: u64)
-    ensures { λ _. ⌜ now (aims .exit) ≡ keptAim (now (aims .entry)) label a means ⌝ }
+// A note of word a kept, where there is room; a label line has no word.
+fn keep_note(notes: &mut [u64], a: usize, at: usize, told: Weighed, next: usize)
+    ensures { λ _. ⌜ now (notes .exit) ≡ keptNote (now (notes .entry)) a at told next ⌝ }
 {
-    if label {
+    if told.label {
         return;
     }
-    if aims.len() <= a {
+    if notes.len() / Addresses::NOTE <= a {
         return;
     }
-    aims[a] = means;
+    let from = Addresses::NOTE * a;
+    notes[from] = at as u64;
+    notes[from + 1] = told.stop as u64;
+    notes[from + 2] = told.means;
+    notes[from + 3] = next as u64;
 }
 
-// The first bad line, or the room that what they move to leaves, and what the words' labels mean.
+// The first bad line, or the room that what they move to leaves, and a note of each word.
 fn judge(
     text: &[u8],
     keys: &[u64],
-    places: &[u64],
     table: &[u32],
     known: Known,
-    aims: &mut [u64],
+    notes: &mut [u64],
     room: Room,
 ) -> Judged
-    requires { ⌜ Knows (now text) (now keys) (now places) (now table) known × (2 ≤ known .from) ⌝ }
-    ensures { λ r. ⌜ Judges (definedIn (now (text .entry)) (known .from)) (rowsFrom (now (text .entry)) (known .from)) room (now (aims .exit)) r ⌝ }
+    requires { ⌜ Knows (now text) (now keys) (now table) known × (2 ≤ known .from) ⌝ }
+    ensures { λ r. ⌜ Judges (now (text .entry)) (known .from) room (now (notes .exit)) r ⌝ }
 {
     let mut at = known.from;
     let mut past = Passed {
@@ -413,7 +412,7 @@ fn judge(
     let mut left = room;
     while at < text.len() {
         let end = find(text, at, b'\n');
-        let told = weigh(text, keys, places, table, known, at, end, past, left);
+        let told = weigh(text, keys, table, known, at, end, past, left);
         if told.number != 0 {
             let line = (past.labels + past.words) as u64 + ReadBack::FIRST_LINE;
             return Judged {
@@ -422,10 +421,11 @@ fn judge(
                 room: left,
             };
         }
-        keep_aim(aims, told.label, past.words, told.means);
+        let next = end + 1;
+        keep_note(notes, past.words, at, told, next);
         left = told.room;
         past = pass(past, told.label, true);
-        at = end + 1;
+        at = next;
     }
     Judged {
         number: 0,
@@ -472,133 +472,144 @@ fn put_jump(out: &mut [u8], at: usize, a: u64, front: &[u8], means: u64) -> usiz
     put_target(out, end, means)
 }
 
-// Where the next line is laid, and how many words were.
+// The place of the next line, where it is laid, and how many words were.
 struct Laid {
+    at: usize,
     place: usize,
     words: usize,
-}
-
-// What the label of word a means, as it was kept, or else by another search.
-fn aim_of(
-    text: &[u8],
-    keys: &[u64],
-    places: &[u64],
-    table: &[u32],
-    known: Known,
-    aims: &[u64],
-    a: usize,
-    name: &[u8],
-) -> u64
-    requires { ⌜ Aimed (now text) (now keys) (now places) (now table) known (now aims) a (now name) ⌝ }
-    ensures { λ r. ⌜ r ≡ meaningIn (definedIn (now (text .entry)) (known .from)) (now (name .entry)) ⌝ }
-{
-    if a < aims.len() {
-        return aims[a];
-    }
-    let found = find_label(text, keys, places, table, known, name);
-    found.means
 }
 
 // What a line moves to.
 fn put_row(
     text: &[u8],
     keys: &[u64],
-    places: &[u64],
     table: &[u32],
     known: Known,
-    aims: &[u64],
-    at: usize,
-    end: usize,
     out: &mut [u8],
     laid: Laid,
 ) -> Laid
-    requires { ⌜ Layable (now text) (now keys) (now places) (now table) known (now aims) at end (now out) laid ⌝ }
-    ensures { λ r. ⌜ LaysRow (definedIn (now (text .entry)) (known .from)) (rowAt (now (text .entry)) at end) (now (out .entry)) laid (now (out .exit)) r ⌝ }
+    requires { ⌜ Layable (now text) (now keys) (now table) known (now out) laid ⌝ }
+    ensures { λ r. ⌜ LaysRow (now (text .entry)) (known .from) (now (out .entry)) laid (now (out .exit)) r ⌝ }
 {
+    let at = laid.at;
+    let end = find(text, at, b'\n');
     let told = glance_two(&text[at..end]);
     if told.label {
-        return laid;
+        return Laid {
+            at: end + 1,
+            place: laid.place,
+            words: laid.words,
+        };
     }
     let a = laid.words as u64;
     let words = laid.words + 1;
     if !told.jump {
         let place = put_plain(out, laid.place, a, &text[at..end]);
-        return Laid { place, words };
+        return Laid {
+            at: end + 1,
+            place,
+            words,
+        };
     }
     let from = at + told.from;
-    let means = aim_of(
-        text,
-        keys,
-        places,
-        table,
-        known,
-        aims,
-        laid.words,
-        &text[from..end],
-    );
-    let place = put_jump(out, laid.place, a, &text[at..from], means);
-    Laid { place, words }
+    let found = find_label(text, keys, table, known, &text[from..end]);
+    let place = put_jump(out, laid.place, a, &text[at..from], found.means);
+    Laid {
+        at: end + 1,
+        place,
+        words,
+    }
 }
 
-// What lines that are all good move to.
-fn put_rows(
+// The next word by its note, and the label lines before it.
+fn put_noted(text: &[u8], notes: &[u64], out: &mut [u8], laid: Laid) -> Laid
+    requires { ⌜ Noted (now text) (now notes) (now out) laid ⌝ }
+    ensures { λ r. ⌜ LaysNoted (now (text .entry)) (now (notes .entry)) (now (out .entry)) laid (now (out .exit)) r ⌝ }
+{
+    let from = Addresses::NOTE * laid.words;
+    let start = notes[from] as usize;
+    let stop = notes[from + 1] as usize;
+    let means = notes[from + 2];
+    let at = notes[from + 3] as usize;
+    let a = laid.words as u64;
+    let words = laid.words + 1;
+    if stop + 1 == at {
+        let place = put_plain(out, laid.place, a, &text[start..stop]);
+        return Laid { at, place, words };
+    }
+    let place = put_jump(out, laid.place, a, &text[start..stop], means);
+    Laid { at, place, words }
+}
+
+// What lines that are all good move to, from a place on.
+fn put_others(
     text: &[u8],
     keys: &[u64],
-    places: &[u64],
     table: &[u32],
     known: Known,
-    aims: &[u64],
     out: &mut [u8],
-    start: usize,
+    start: Laid,
 ) -> usize
-    requires { ⌜ LayableAll (now text) (now keys) (now places) (now table) known (now aims) (now out) start ⌝ }
-    ensures { λ r. ⌜ Put (addressedFrom (definedIn (now (text .entry)) (known .from)) 0 (rowsFrom (now (text .entry)) (known .from))) (now (out .entry)) start (now (out .exit)) r ⌝ }
+    requires { ⌜ LayableFrom (now text) (now keys) (now table) known (now out) start ⌝ }
+    ensures { λ r. ⌜ Put (addressedFrom (definedIn (now (text .entry)) (known .from)) (start .words) (rowsFrom (now (text .entry)) (start .at))) (now (out .entry)) (start .place) (now (out .exit)) r ⌝ }
 {
-    let mut at = known.from;
-    let mut laid = Laid {
-        place: start,
-        words: 0,
-    };
-    while at < text.len() {
-        let end = find(text, at, b'\n');
-        laid = put_row(text, keys, places, table, known, aims, at, end, out, laid);
-        at = end + 1;
+    let mut laid = start;
+    while laid.at < text.len() {
+        laid = put_row(text, keys, table, known, out, laid);
     }
     laid.place
 }
 
-// All of it, once the labels are collected: the labels' list is used where it has them all.
-fn finish(
+// What lines that are all good move to, by the notes of their words as far as they go.
+fn put_rows(
     text: &[u8],
-    from: usize,
     keys: &[u64],
-    places: &[u64],
-    end: Passed,
+    table: &[u32],
+    known: Known,
+    notes: &[u64],
     out: &mut [u8],
-) -> Moved
-    requires { ⌜ Parts (now text) from (now keys) (now places) end ⌝ }
+    start: usize,
+) -> usize
+    requires { ⌜ LayableAll (now text) (now keys) (now table) known (now notes) (now out) start ⌝ }
+    ensures { λ r. ⌜ Put (addressedFrom (definedIn (now (text .entry)) (known .from)) 0 (rowsFrom (now (text .entry)) (known .from))) (now (out .entry)) start (now (out .exit)) r ⌝ }
+{
+    let noted = least(known.words, notes.len() / Addresses::NOTE);
+    let mut laid = Laid {
+        at: known.from,
+        place: start,
+        words: 0,
+    };
+    while laid.words < noted {
+        laid = put_noted(text, notes, out, laid);
+    }
+    put_others(text, keys, table, known, out, laid)
+}
+
+// All of it, once the labels are collected: the labels' list is used where it has them all.
+fn finish(text: &[u8], from: usize, keys: &[u64], end: Passed, out: &mut [u8]) -> Moved
+    requires { ⌜ Parts (now text) from (now keys) end ⌝ }
     ensures { λ r. ⌜ Finishes (now (text .entry)) from (now (out .entry)) (now (out .exit)) r ⌝ }
 {
     let mut table = [Table::EMPTY; Table::SLOTS];
     let sight = prepare(keys, &mut table);
     let known = Known {
         from,
-        ready: sight.ready & (places.len() == end.labels),
+        ready: sight.ready & (keys.len() / Table::NUMBERS == end.labels),
         double: sight.double,
         labels: end.labels,
         words: end.words,
     };
-    let room = Room::new(out.len()).take(from);
-    let mut aims = [1u64; Table::LABELS];
-    let judged = judge(text, keys, places, &table, known, &mut aims, room);
+    let room = Room::behind(out.len(), from);
+    let mut notes = [1u64; Addresses::NOTE * Addresses::NOTES];
+    let judged = judge(text, keys, &table, known, &mut notes, room);
     if judged.number != 0 {
         return Moved::refused(judged.number, judged.line);
     }
-    if !judged.room.fits {
+    if judged.room.left == 0 {
         return Moved::refused(ReadBack::NO_ROOM, 0);
     }
     let start = put_header(out, Listing::EDITION);
-    let size = put_rows(text, keys, places, &table, known, &aims, out, start);
+    let size = put_rows(text, keys, &table, known, &notes, out, start);
     Moved {
         number: 0,
         line: 0,
@@ -625,9 +636,7 @@ pub fn to_addresses(text: &[u8], out: &mut [u8]) -> Moved
         return Moved::refused(ReadBack::NO_HEADER, 1);
     }
     let mut keys = [1u64; Addresses::NUMBERS];
-    let mut places = [1u64; Table::LABELS];
-    let end = collect(text, from, &mut keys, &mut places);
-    let n = least(end.labels, Table::LABELS);
-    let m = 2 * n;
-    finish(text, from, &keys[..m], &places[..n], end, out)
+    let end = collect(text, from, &mut keys);
+    let n = Table::NUMBERS * least(end.labels, Table::LABELS);
+    finish(text, from, &keys[..n], end, out)
 }

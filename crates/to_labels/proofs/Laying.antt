@@ -8,7 +8,7 @@ use native.Mathlib.Nat.{add-zero}
 use native.Mathlib.Omega.{arith}
 use lib.ListN.{length, length-append}
 use Rattle.buffer.specs.Put.{Fits, Put}
-use Rattle.buffer.proofs.Laws.{put-none, fits-first, fits-next, puts-both}
+use Rattle.buffer.proofs.Laws.{put-none}
 use Rattle.text.specs.Cut.{tab, lineFeed}
 use Rattle.text.specs.Line.{letters, decimal}
 use Rattle.editions.specs.Moves.{labelLine}

@@ -1,9 +1,10 @@
-pub mod Feeds
 pub mod Judging
 pub mod Laying
 pub mod Marking
 pub mod Marks
 pub mod Naming
+pub mod Noting
+pub mod Parting
 pub mod Placing
 pub mod Taking
 pub mod Whole

@@ -11,16 +11,17 @@ use lib.ListN.{length, getD, take, drop, length-append, length-drop}
 use lib.Seq.{drop-drop, take-at, drop-at, take-all, length-take-le}
 use Rattle.instruction.specs.Bits.{pick}
 use Rattle.text.specs.Cut.{tab, lineFeed, cut, joined}
-use Rattle.text.specs.Line.{letters}
+use Rattle.text.specs.Line.{letters, decimal}
 use Rattle.text.specs.Number.{isNumber}
 use Rattle.text.proofs.Bools.{both}
 use Rattle.text.proofs.Back.{number-text}
 use Rattle.text.proofs.Cuts.{joined-cut}
 use Rattle.fields.specs.Fields.{allNumbers}
+use Rattle.page.proofs.Decimal.{decimal-some}
 use Rattle.listing_reader.specs.ReadBack.{addressIn, nameIn, numbersIn}
 use Rattle.editions.specs.Editions.{aimed, lineOf, jumpsOne, targetOne, fieldsNumberOne}
 use Rattle.editions.specs.Moves.{labelOf}
-use Rattle.editions.specs.Told.{nowhere, final, finalFrom, TellsOne}
+use Rattle.editions.specs.Told.{nowhere, aimOne, final, finalFrom, TellsOne}
 use Rattle.editions.specs.declared.LineOne.{LineOne}
 use Rattle.to_labels.specs.Loops.{namedLine, namedText, isPlain, Named}
 use Rattle.to_labels.proofs.Judging.{good-aim, good-two, good-numbers, good-three}
@@ -154,8 +155,15 @@ module _ (n a : ℕ) (line : List ℕ) (well : fieldsNumberOne n a true (cut tab
     ordered = omega (arith, from-is)
 
     -- a plain decimal is the text of its number
+    digits : decimal (targetOne fs) ≡ target
+    digits = number-text target (number-at ns (good-three n a true fs well j) (good-numbers n a true fs well))
+
+    -- how long it is
+    target-size : finalFrom line + length (decimal (targetOne fs)) ≡ length line
+    target-size = omega (arith, from-is, size, ap length rest, length-append (front (nameIn fs) x y) target, ap length digits)
+
     aim : labelOf (targetOne fs) ≡ letters "L" ++ target
-    aim = ap (λ (l : List ℕ). letters "L" ++ l) (number-text target (number-at ns (good-three n a true fs well j) (good-numbers n a true fs well)))
+    aim = ap (λ (l : List ℕ). letters "L" ++ l) digits
 
     jump-text : namedLine line ≡ take (finalFrom line - told .from) (drop (told .from) line) ++ (letters "L" ++ (drop (finalFrom line) line ++ (lineFeed ∷ [])))
     jump-text =
@@ -173,6 +181,7 @@ module _ (n a : ℕ) (line : List ℕ) (well : fieldsNumberOne n a true (cut tab
         some = omega (arith, start);
         inside = omega (arith, size);
         order = λ q. order (jumpsOne fs) refl q;
+        target = λ q. some (jumpsOne fs) refl q;
       }
     where
       by : (s : Bool) → jumpsOne fs ≡ s → isPlain told ≡ not s → namedLine line ≡ namedText line (isPlain told) (told .from)
@@ -182,6 +191,18 @@ module _ (n a : ℕ) (line : List ℕ) (well : fieldsNumberOne n a true (cut tab
       order : (s : Bool) → jumpsOne fs ≡ s → (told .target ≡ nowhere → ⊥) → told .from ≤ finalFrom line
       order true j q = ordered j
       order false j q = absurd (q (eqb-true (told .target) nowhere (plain-is ∙ ap not j)))
+
+      some : (s : Bool) → jumpsOne fs ≡ s → (told .target ≡ nowhere → ⊥) → finalFrom line < length line
+      some true j q = omega (arith, target-size j, decimal-some (targetOne fs))
+      some false j q = absurd (q (eqb-true (told .target) nowhere (plain-is ∙ ap not j)))
+
+  -- the target of a jump is as long as its digits
+  pub aim-size : told .target ≡ aimOne fs → (told .target ≡ nowhere → ⊥) → finalFrom line + length (decimal (told .target)) ≡ length line
+  aim-size t q = by (jumpsOne fs) refl
+    where
+      by : (s : Bool) → jumpsOne fs ≡ s → finalFrom line + length (decimal (told .target)) ≡ length line
+      by true j = ap (λ (k : ℕ). finalFrom line + length (decimal k)) (t ∙ ap (λ (s : Bool). pick s (targetOne fs) nowhere) j) ∙ target-size j
+      by false j = absurd (q (t ∙ ap (λ (s : Bool). pick s (targetOne fs) nowhere) j))
 
 -- how long it is
 pub named-length : (line : List ℕ) (told : LineOne) → Named line told → length (namedLine line) ≡ length line + 1 - told .from + pick (isPlain told) 0 1
@@ -213,9 +234,6 @@ module _ (line : List ℕ) (told : LineOne) (m : Named line told) where
       ∙ ap (λ (l : List ℕ). l ++ (lineFeed ∷ [])) (sym (take-all (length line - told .from) (drop (told .from) line) (omega (arith, length-drop (told .from) line))))
 
   module _ (n : told .target ≡ nowhere → ⊥) {last : ℕ} (e : last ≡ finalFrom line) where
-    pub jump-order : told .from ≤ last
-    jump-order = omega (arith, m .order n, e)
-
     pub jump-lent : namedLine line
         ≡ take (last - told .from) (drop (told .from) line) ++ (letters "L" ++ (take (length line - last) (drop last line) ++ (lineFeed ∷ [])))
     jump-lent =

@@ -1,15 +1,14 @@
 -- Laws of room that is taken piece by piece, and of the label lines, one for each target.
 -- Assumes nothing.
 use Prim.Native.Nat.{ℕ, suc, _+_, _-_, _≤_, _<_}
-use mathlib.Core.Path.{_≡_, sym, ap, ap₂, subst, _∙_}
+use mathlib.Core.Path.{_≡_, ap, ap₂, subst, _∙_}
 use mathlib.Core.Bool.{Bool}
 use mathlib.Core.List.{List}
 use native.Mathlib.Omega.{arith}
-use native.Mathlib.Nat.{add-zero, add-assoc}
 use lib.ListN.{length}
 use Rattle.text.specs.Cut.{Row, has}
 use Rattle.editions.specs.Moves.{targetsIn}
-use Rattle.editions.specs.Told.{taken, RoomFor, Takes}
+use Rattle.editions.specs.Told.{taken, Takes}
 use Rattle.editions.specs.declared.Room.{Room}
 use Rattle.editions.proofs.Rooms.{takes-none, takes-more}
 use Rattle.to_labels.specs.Loops.{labelText, labelsSize, Known, Near, LabelsRoom}

@@ -9,7 +9,7 @@ ghost use Rattle.buffer.specs.Put.{Fits, Put};
 ghost use Rattle.text.specs.Cut.{lineFeed, placeOf, rowAt, rowsIn};
 ghost use Rattle.text.specs.Line.{letters};
 ghost use Rattle.editions.specs.Moves.{moved, Moves, labelLine, ToLabels};
-ghost use Rattle.to_labels.specs.Loops.{TellsRow, namedLine, isPlain, Named, labelText, Movable, Marked, markedOf, feedOf, Feeds, LineCount, Ready, JudgesLines, Based, Known, Near, LabelsRoom, labelledLines, Passed, labelledText};
+ghost use Rattle.to_labels.specs.Loops.{TellsRow, isPlain, labelText, partsText, InText, PartsOf, PartsFit, partsBy, keptNote, Movable, Noted, Marked, markedOf, LineCount, Ready, JudgesLines, Based, Known, Near, LabelsRoom, Layable, labelledLines, Passed, labelledText};
 use editions::LineOne;
 use editions::Moved;
 use editions::Room;
@@ -37,40 +37,25 @@ impl Labels {
 
     // `label`, tab, `L` and the line feed.
     pub const LINE: usize = 8;
-}
 
-// A line feed is one.
-fn feed(b: u8) -> u64
-    ensures { λ r. ⌜ (r ≡ feedOf b) × (r ≤ 1) ⌝ }
-{
-    if b == b'\n' {
-        return 1;
-    }
-    0
-}
+    // Words of which a note is kept: as many as the longest sequence has.
+    const NOTES: usize = 65536;
 
-// How many line feeds stand from a place on.
-fn feed_count(text: &[u8], from: usize) -> u64
-    ensures { λ r. ⌜ Feeds (drop from (now (text .entry))) r ⌝ }
-{
-    let mut n: u64 = 0;
-    let mut i = from;
-    while i < text.len() {
-        n += feed(text[i]);
-        i += 1;
-    }
-    n
+    // Numbers of a note: where the word's name starts, where its target does, and where its line ends.
+    const NOTE: usize = 3;
 }
 
 // How many lines stand from a place on: the last may have no line feed.
 fn line_count(text: &[u8], from: usize) -> u64
     ensures { λ r. ⌜ LineCount (rowsIn (drop from (now (text .entry)))) r ⌝ }
 {
-    let n = feed_count(text, from);
-    if text.len() <= from {
-        return n;
+    let mut n: u64 = 0;
+    let mut at = from;
+    while at < text.len() {
+        at = find(text, at, b'\n') + 1;
+        n += 1;
     }
-    n + 1 - feed(text[text.len() - 1])
+    n
 }
 
 // The line from a place to its end, as the one of address a.
@@ -109,6 +94,48 @@ fn mark(marks: &mut [u8], base: u64, target: u64)
     }
 }
 
+// A line's parts, as places in the text: where its name starts, where its target does, and its end; a line that does not jump has its
+// target at its end.
+struct Parts {
+    from: usize,
+    last: usize,
+    end: usize,
+}
+
+// The parts of a line from a place to its end, by what was told of it: a target is as long as its digits.
+fn parts_of(at: usize, end: usize, told: LineOne) -> Parts
+    requires { ⌜ PartsFit at end told ⌝ }
+    ensures { λ r. ⌜ r ≡ partsBy at end told ⌝ }
+{
+    let from = at + told.from;
+    if told.target == LineOne::NOWHERE {
+        return Parts {
+            from,
+            last: end,
+            end,
+        };
+    }
+    Parts {
+        from,
+        last: end - digit_count(told.target),
+        end,
+    }
+}
+
+// A note of word a kept, where there is room.
+fn keep_note(notes: &mut [u64], a: u64, parts: Parts)
+    ensures { λ _. ⌜ now (notes .exit) ≡ keptNote (now (notes .entry)) a parts ⌝ }
+{
+    let i = a as usize;
+    if notes.len() / Labels::NOTE <= i {
+        return;
+    }
+    let from = Labels::NOTE * i;
+    notes[from] = parts.from as u64;
+    notes[from + 1] = parts.last as u64;
+    notes[from + 2] = parts.end as u64;
+}
+
 // What is told of all lines: 0 and the room that they leave, or the number of the first bad one and its line.
 struct Judged {
     number: u64,
@@ -116,10 +143,17 @@ struct Judged {
     room: Room,
 }
 
-// The first bad line from a place on, or the room that the lines leave, with every target marked.
-fn judge_lines(text: &[u8], from: usize, n: u64, marks: &mut [u8], room: Room) -> Judged
+// The first bad line from a place on, or the room that the lines leave, with every target marked and a note of each word.
+fn judge_lines(
+    text: &[u8],
+    from: usize,
+    n: u64,
+    marks: &mut [u8],
+    notes: &mut [u64],
+    room: Room,
+) -> Judged
     requires { ⌜ Ready n (rowsIn (drop from (now text))) (now marks) ⌝ }
-    ensures { λ r. ⌜ JudgesLines n (rowsIn (drop from (now (text .entry)))) room (now (marks .exit)) r ⌝ }
+    ensures { λ r. ⌜ JudgesLines n (now (text .entry)) from room (now (marks .exit)) (now (notes .exit)) r ⌝ }
 {
     let mut at = from;
     let mut a: u64 = 0;
@@ -137,6 +171,7 @@ fn judge_lines(text: &[u8], from: usize, n: u64, marks: &mut [u8], room: Room) -
         }
         mark(marks, 0, told.target);
         left = left.take(named_size(next - at, told));
+        keep_note(notes, a, parts_of(at, end, told));
         at = next;
         a += 1;
     }
@@ -255,28 +290,63 @@ fn put_jump(out: &mut [u8], at: usize, front: &[u8], target: &[u8]) -> usize
     put_last(out, next, target)
 }
 
-// A line from its name on, with a label as target where it jumps.
-fn put_named(out: &mut [u8], at: usize, line: &[u8], told: LineOne) -> usize
-    requires { ⌜ Named (now line) told × Fits (namedLine (now line)) (now out) at ⌝ }
-    ensures { λ r. ⌜ Put (namedLine (now (line .entry))) (now (out .entry)) at (now (out .exit)) r ⌝ }
+// A line by its parts, with an `L` before its target where it jumps.
+fn put_parts(out: &mut [u8], at: usize, text: &[u8], parts: Parts) -> usize
+    requires { ⌜ InText (now text) parts × Fits (partsText (now text) parts) (now out) at ⌝ }
+    ensures { λ r. ⌜ Put (partsText (now (text .entry)) parts) (now (out .entry)) at (now (out .exit)) r ⌝ }
 {
-    let from = told.from;
-    let size = line.len();
-    if told.target == LineOne::NOWHERE {
-        return put_last(out, at, &line[from..size]);
+    let from = parts.from;
+    let last = parts.last;
+    let end = parts.end;
+    if last == end {
+        return put_last(out, at, &text[from..end]);
     }
-    let last = last_field(line);
-    put_jump(out, at, &line[from..last], &line[last..size])
+    put_jump(out, at, &text[from..last], &text[last..end])
 }
 
-// The line of address a, of n, and its label line before it, if it has one.
-fn put_row(out: &mut [u8], at: usize, line: &[u8], a: u64, n: u64, on: bool) -> usize
-    requires { ⌜ Movable n a (now line) × Fits (labelText on a ++ namedLine (now line)) (now out) at ⌝ }
-    ensures { λ r. ⌜ Put (labelText on a ++ namedLine (now (line .entry))) (now (out .entry)) at (now (out .exit)) r ⌝ }
+// The line of address a, and its label line before it, if it has one.
+fn put_row(out: &mut [u8], at: usize, text: &[u8], parts: Parts, a: u64, on: bool) -> usize
+    requires { ⌜ InText (now text) parts × Fits (labelText on a ++ partsText (now text) parts) (now out) at ⌝ }
+    ensures { λ r. ⌜ Put (labelText on a ++ partsText (now (text .entry)) parts) (now (out .entry)) at (now (out .exit)) r ⌝ }
 {
-    let told = glance_one(line);
     let next = put_label(out, at, a, on);
-    put_named(out, next, line, told)
+    put_parts(out, next, text, parts)
+}
+
+// The parts of a line that is known to be well, by looking at it.
+fn parts_seen(text: &[u8], at: usize) -> Parts
+    requires { ⌜ Movable (now text) at ⌝ }
+    ensures { λ r. ⌜ PartsOf (now (text .entry)) at r ⌝ }
+{
+    let end = find(text, at, b'\n');
+    let told = glance_one(&text[at..end]);
+    let from = at + told.from;
+    if told.target == LineOne::NOWHERE {
+        return Parts {
+            from,
+            last: end,
+            end,
+        };
+    }
+    let last = at + last_field(&text[at..end]);
+    Parts { from, last, end }
+}
+
+// The parts of the line of address a, by the note of it, or by looking at it where there is none.
+fn parts_at(text: &[u8], notes: &[u64], at: usize, a: u64) -> Parts
+    requires { ⌜ Movable (now text) at × Noted (now text) (now notes) at a ⌝ }
+    ensures { λ r. ⌜ PartsOf (now (text .entry)) at r ⌝ }
+{
+    let i = a as usize;
+    if notes.len() / Labels::NOTE <= i {
+        return parts_seen(text, at);
+    }
+    let from = Labels::NOTE * i;
+    Parts {
+        from: notes[from] as usize,
+        last: notes[from + 1] as usize,
+        end: notes[from + 2] as usize,
+    }
 }
 
 // The lines of edition 2, from a place on.
@@ -285,10 +355,11 @@ fn put_lines(
     from: usize,
     n: u64,
     marks: &mut [u8],
+    notes: &[u64],
     out: &mut [u8],
     start: usize,
 ) -> usize
-    requires { ⌜ Known n (rowsIn (drop from (now text))) 0 (now marks) × Fits (labelledLines (rowsIn (drop from (now text)))) (now out) start ⌝ }
+    requires { ⌜ Layable n (now text) from (now marks) (now notes) (now out) start ⌝ }
     ensures { λ r. ⌜ Put (labelledLines (rowsIn (drop from (now (text .entry))))) (now (out .entry)) start (now (out .exit)) r ⌝ }
 {
     let mut at = from;
@@ -296,27 +367,35 @@ fn put_lines(
     let mut base: u64 = 0;
     let mut place = start;
     while at < text.len() {
-        let end = find(text, at, b'\n');
+        let parts = parts_at(text, notes, at, a);
         base = base_for(text, from, n, marks, base, a);
         let on = marks[(a - base) as usize] != 0;
-        place = put_row(out, place, &text[at..end], a, n, on);
-        at = end + 1;
+        place = put_row(out, place, text, parts, a, on);
+        at = parts.end + 1;
         a += 1;
     }
     place
 }
 
 // The text of lines with which nothing is wrong: whole, or not at all where there is no room for it.
-fn finish(text: &[u8], from: usize, n: u64, marks: &mut [u8], room: Room, out: &mut [u8]) -> Moved
-    requires { ⌜ Passed n from (rowsIn (drop from (now text))) (now marks) (now out) room ⌝ }
+fn finish(
+    text: &[u8],
+    from: usize,
+    n: u64,
+    marks: &mut [u8],
+    notes: &[u64],
+    room: Room,
+    out: &mut [u8],
+) -> Moved
+    requires { ⌜ Passed n (now text) from (now marks) (now notes) (now out) room ⌝ }
     ensures { λ r. ⌜ Moves (moved 0) (labelledText (rowsIn (drop from (now (text .entry))))) (now (out .entry)) (now (out .exit)) r ⌝ }
 {
     let left = room_for_labels(text, from, n, marks, room);
-    if !left.fits {
+    if left.left == 0 {
         return Moved::refused(ReadBack::NO_ROOM, 0);
     }
     let start = put_header(out, Listing::LABELLED);
-    let size = put_lines(text, from, n, marks, out, start);
+    let size = put_lines(text, from, n, marks, notes, out, start);
     Moved {
         number: 0,
         line: 0,
@@ -334,11 +413,12 @@ pub fn to_labels(text: &[u8], out: &mut [u8]) -> Moved
         return Moved::refused(ReadBack::NO_HEADER, 1);
     }
     let n = line_count(text, from);
-    let room = Room::new(out.len()).take(from);
+    let room = Room::behind(out.len(), from);
     let mut marks = [0u8; Labels::MARKS];
-    let judged = judge_lines(text, from, n, &mut marks, room);
+    let mut notes = [1u64; Labels::NOTE * Labels::NOTES];
+    let judged = judge_lines(text, from, n, &mut marks, &mut notes, room);
     if judged.number != 0 {
         return Moved::refused(judged.number, judged.line);
     }
-    finish(text, from, n, &mut marks, judged.room, out)
+    finish(text, from, n, &mut marks, &notes, judged.room, out)
 }

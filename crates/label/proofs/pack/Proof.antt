@@ -1,5 +1,4 @@
 -- Up to eight bytes, and the rest.
-use native.Mathlib.Omega.{arith}
 use Rattle.label.proofs.Packed.{key-short, key-long}
 use borrow.Author.Needs.{needs}
 use Rattle.label.proofs.pack.Statement.{statement}

@@ -23,8 +23,8 @@ sub-last c = omega (arith, c .if1 .left)
 loop-holds : tie.Need-loop-holds Inv-loop μ-loop
 loop-holds c = refl
 
-are-others-requires : tie.Need-are-others-requires Inv-loop μ-loop
-are-others-requires c κs = omega (arith, c .loop-test .taken, c .before .before .if1 .left)
+may-stride-requires : tie.Need-may-stride-requires Inv-loop μ-loop
+may-stride-requires c κs = omega (arith, c .loop-test .taken, c .before .before .if1 .left)
 
 returns-2 : tie.Need-returns-2 Inv-loop μ-loop
 returns-2 c = c .before .before .before .loop .inv
@@ -36,7 +36,7 @@ loop-less : tie.Need-loop-less Inv-loop μ-loop
 loop-less c = omega (arith, c .before .before .loop-test .taken, c .before .before .before .before .if1 .left)
 
 loop-again : tie.Need-loop-again Inv-loop μ-loop
-loop-again c = c .before .are-others .ensures (not-false _ (c .if2 .left)) ∙ c .before .before .before .loop .inv
+loop-again c = c .before .may-stride .ensures (not-false _ (c .if2 .left)) ∙ c .before .before .before .loop .inv
 
 returns-3 : tie.Need-returns-3 Inv-loop μ-loop
 returns-3 c = c .before .loop .inv
@@ -50,7 +50,7 @@ stride-over-spec =
     returns
     sub-last
     loop-holds
-    are-others-requires
+    may-stride-requires
     returns-2
     add-i
     loop-less

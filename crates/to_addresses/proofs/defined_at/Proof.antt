@@ -2,7 +2,6 @@
 use borrow.Author.Tests.{not-true, not-false}
 use Prim.Native.Nat.{_-_}
 use lib.ListN.{take, drop}
-use native.Mathlib.Omega.{arith}
 use Rattle.editions.proofs.Two.{end-inside}
 use Rattle.to_addresses.proofs.Passing.{line-order, line-inside, defines-other, defines-word, defines-none, defines-open, defines-here}
 use borrow.Author.Needs.{needs}

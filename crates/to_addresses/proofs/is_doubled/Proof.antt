@@ -1,5 +1,5 @@
 -- By the first double, or by a search.
-use mathlib.Core.Path.{ap, _∙_}
+use mathlib.Core.Path.{ap}
 use Prim.Native.Nat.{ℕ}
 use lib.Dec.{ltb}
 use Rattle.to_addresses.proofs.Judging.{double-is}

@@ -1,6 +1,4 @@
 -- By what the line is.
-use mathlib.Core.Path.{sym, ap, ap₂}
-use mathlib.Core.Bool.{Bool}
 use Rattle.to_addresses.proofs.Passing.{pass-label, pass-word, pass-none}
 use borrow.Author.Needs.{needs}
 use Rattle.to_addresses.proofs.pass.Statement.{statement}

@@ -1,42 +1,40 @@
--- Line after line.
+-- Word after word by the notes, and then the others.
 use borrow.Author.Needs.{needs}
-use Prim.Native.Nat.{_-_}
+use Prim.Native.Nat.{_-_, _≤_}
 use native.Mathlib.Omega.{arith}
-use lib.ListN.{length}
-use Rattle.to_addresses.proofs.Passing.{line-order, line-inside}
-use Rattle.to_addresses.proofs.Laying.{Laying, laying-start, laying-row, laying-next, laying-length, laying-end}
+use Rattle.to_addresses.proofs.Laying.{Noting, noting-start, noting-word, noting-next, noting-length, noting-others, noting-end}
 use Rattle.to_addresses.proofs.put_rows.Statement.{statement}
 use Rattle.to_addresses.proofs.put_rows.Tie as tie
 
 abbrev Inv-loop : tie.InvT-loop
-Inv-loop text keys places table known aims out₀ start at₀ laid₀ out at laid = Laying text known out₀ start at laid out
+Inv-loop text keys table known notes out₀ start noted laid₀ out laid = Noting text known notes out₀ start laid out × (laid .words ≤ noted)
 
 abbrev μ-loop : tie.MeasureT-loop
-μ-loop text keys places table known aims out₀ start at₀ laid₀ out at laid = length text - at
+μ-loop text keys table known notes out₀ start noted laid₀ out laid = noted - laid .words
+
+least-requires : tie.Need-least-requires Inv-loop μ-loop
+least-requires c κs = search needs
 
 loop-holds : tie.Need-loop-holds Inv-loop μ-loop
-loop-holds c = laying-start (c .before .before .before .before .before .before .args .text .now) (c .before .before .before .before .before .before .args .keys .now) (c .before .before .before .before .before .before .args .places .now) (c .before .before .before .before .before .before .args .table .now) (c .before .before .before .before .before .before .args .known) (c .before .before .before .before .before .before .args .aims .now) (c .before .before .before .before .before .before .args .out .now) (c .before .before .before .before .before .before .args .start) (c .before .before .before .before .before .before .pre)
+loop-holds c = (noting-start (c .before .before .before .before .before .before .args .text .now) (c .before .before .before .before .before .before .args .keys .now) (c .before .before .before .before .before .before .args .table .now) (c .before .before .before .before .before .before .args .known) (c .before .before .before .before .before .before .args .notes .now) (c .before .before .before .before .before .before .args .out .now) (c .before .before .before .before .before .before .args .start) (c .before .before .before .before .before .before .pre), omega arith)
 
-find-requires : tie.Need-find-requires Inv-loop μ-loop
-find-requires c κs = search needs
-
-put-row-requires : tie.Need-put-row-requires Inv-loop μ-loop
-put-row-requires c κs = laying-row (c .before .before .before .before .before .before .before .before .before .before .args .text .now) (c .before .before .before .before .before .before .before .before .before .before .args .keys .now) (c .before .before .before .before .before .before .before .before .before .before .args .places .now) (c .before .before .before .before .before .before .before .before .before .before .args .table .now) (c .before .before .before .before .before .before .before .before .before .before .args .known) (c .before .before .before .before .before .before .before .before .before .before .args .aims .now) (c .before .before .before .before .before .before .before .before .before .before .args .out .now) (c .before .before .before .before .before .before .before .before .before .before .args .start) (c .before .before .before .before .before .before .before .before .before .before .pre) (c .before .before .before .loop .inv) (c .before .before .loop-test .taken) (c .before .find .ensures) (omega (arith, c .before .before .before .before .before .before .before .before .before .before .good .0))
-
-add-at : tie.Need-add-at Inv-loop μ-loop
-add-at c = omega (arith, line-inside (c .before .before .before .before .before .before .before .before .before .before .before .before .before .args .text .now) (c .before .before .before .before .before .loop-test .taken) (c .before .before .before .before .find .ensures), c .before .before .before .before .before .before .before .before .before .before .before .before .before .good .0)
+put-noted-requires : tie.Need-put-noted-requires Inv-loop μ-loop
+put-noted-requires c κs = noting-word (c .before .before .before .before .before .before .before .before .before .before .args .text .now) (c .before .before .before .before .before .before .before .before .before .before .args .keys .now) (c .before .before .before .before .before .before .before .before .before .before .args .table .now) (c .before .before .before .before .before .before .before .before .before .before .args .known) (c .before .before .before .before .before .before .before .before .before .before .args .notes .now) (c .before .before .before .before .before .before .before .before .before .before .args .out .now) (c .before .before .before .before .before .before .before .before .before .before .args .start) (c .before .before .before .before .before .before .before .before .before .before .pre) (c .before .before .before .loop .inv .0) (omega (arith, c .before .if1 .taken, c .before .before .before .before .least .ensures .0)) (omega (arith, c .before .if1 .taken, c .before .before .before .before .least .ensures .1))
 
 loop-less : tie.Need-loop-less Inv-loop μ-loop
-loop-less c = omega (arith, line-order (c .before .before .before .before .before .before .before .before .before .before .before .before .before .args .text .now) (c .before .before .before .before .before .loop-test .taken) (c .before .before .before .before .find .ensures), c .before .before .before .before .before .loop-test .taken)
+loop-less c = omega (arith, c .before .before .before .before .if1 .taken, c .before .before .put-noted .ensures .counts)
 
 loop-again : tie.Need-loop-again Inv-loop μ-loop
-loop-again c = laying-next (c .before .before .before .before .before .before .before .before .before .before .before .before .before .args .text .now) (c .before .before .before .before .before .before .before .before .before .before .before .before .before .args .keys .now) (c .before .before .before .before .before .before .before .before .before .before .before .before .before .args .places .now) (c .before .before .before .before .before .before .before .before .before .before .before .before .before .args .table .now) (c .before .before .before .before .before .before .before .before .before .before .before .before .before .args .known) (c .before .before .before .before .before .before .before .before .before .before .before .before .before .args .aims .now) (c .before .before .before .before .before .before .before .before .before .before .before .before .before .args .out .now) (c .before .before .before .before .before .before .before .before .before .before .before .before .before .args .start) (c .before .before .before .before .before .before .before .before .before .before .before .before .before .pre) (c .before .before .before .before .before .before .loop .inv) (c .before .before .before .before .before .loop-test .taken) (c .before .before .before .before .find .ensures) (c .before .before .put-row .ensures)
+loop-again c = (noting-next (c .before .before .before .before .before .before .before .before .before .before .before .before .before .args .text .now) (c .before .before .before .before .before .before .before .before .before .before .before .before .before .args .keys .now) (c .before .before .before .before .before .before .before .before .before .before .before .before .before .args .table .now) (c .before .before .before .before .before .before .before .before .before .before .before .before .before .args .known) (c .before .before .before .before .before .before .before .before .before .before .before .before .before .args .notes .now) (c .before .before .before .before .before .before .before .before .before .before .before .before .before .args .out .now) (c .before .before .before .before .before .before .before .before .before .before .before .before .before .args .start) (c .before .before .before .before .before .before .before .before .before .before .before .before .before .pre) (c .before .before .before .before .before .before .loop .inv .0) (omega (arith, c .before .before .before .before .if1 .taken, c .before .before .before .before .before .before .before .least .ensures .0)) (omega (arith, c .before .before .before .before .if1 .taken, c .before .before .before .before .before .before .before .least .ensures .1)) (c .before .before .put-noted .ensures), omega (arith, c .before .before .before .before .if1 .taken, c .before .before .put-noted .ensures .counts))
+
+put-others-requires : tie.Need-put-others-requires Inv-loop μ-loop
+put-others-requires c κs = noting-others (c .before .before .before .before .before .before .before .before .before .before .args .text .now) (c .before .before .before .before .before .before .before .before .before .before .args .keys .now) (c .before .before .before .before .before .before .before .before .before .before .args .table .now) (c .before .before .before .before .before .before .before .before .before .before .args .known) (c .before .before .before .before .before .before .before .before .before .before .args .notes .now) (c .before .before .before .before .before .before .before .before .before .before .args .out .now) (c .before .before .before .before .before .before .before .before .before .before .args .start) (c .before .before .before .before .before .before .before .before .before .before .pre) (c .before .before .before .loop .inv .0) (omega (arith, c .before .before .before .loop .inv .1, c .before .before .before .before .least .ensures .0)) (omega (arith, c .before .before .before .loop .inv .1, c .before .before .before .before .least .ensures .1))
 
 same-length : tie.Need-same-length Inv-loop μ-loop
-same-length c = laying-length (c .before .before .before .before .before .before .before .before .args .text .now) (c .before .before .before .before .before .before .before .before .args .keys .now) (c .before .before .before .before .before .before .before .before .args .places .now) (c .before .before .before .before .before .before .before .before .args .table .now) (c .before .before .before .before .before .before .before .before .args .known) (c .before .before .before .before .before .before .before .before .args .aims .now) (c .before .before .before .before .before .before .before .before .args .out .now) (c .before .before .before .before .before .before .before .before .args .start) (c .before .before .before .before .before .before .before .before .pre) (c .before .loop .inv)
+same-length c = noting-length (c .before .before .before .before .before .before .before .before .before .before .before .before .before .args .text .now) (c .before .before .before .before .before .before .before .before .before .before .before .before .before .args .keys .now) (c .before .before .before .before .before .before .before .before .before .before .before .before .before .args .table .now) (c .before .before .before .before .before .before .before .before .before .before .before .before .before .args .known) (c .before .before .before .before .before .before .before .before .before .before .before .before .before .args .notes .now) (c .before .before .before .before .before .before .before .before .before .before .before .before .before .args .out .now) (c .before .before .before .before .before .before .before .before .before .before .before .before .before .args .start) (c .before .before .before .before .before .before .before .before .before .before .before .before .before .pre) (c .before .before .before .before .before .before .loop .inv .0) (c .before .before .put-others .ensures)
 
 returns : tie.Need-returns Inv-loop μ-loop
-returns c = laying-end (c .before .before .before .before .before .before .before .before .args .text .now) (c .before .before .before .before .before .before .before .before .args .keys .now) (c .before .before .before .before .before .before .before .before .args .places .now) (c .before .before .before .before .before .before .before .before .args .table .now) (c .before .before .before .before .before .before .before .before .args .known) (c .before .before .before .before .before .before .before .before .args .aims .now) (c .before .before .before .before .before .before .before .before .args .out .now) (c .before .before .before .before .before .before .before .before .args .start) (c .before .before .before .before .before .before .before .before .pre) (c .before .loop .inv) (c .loop-test .left)
+returns c = noting-end (c .before .before .before .before .before .before .before .before .before .before .before .before .before .args .text .now) (c .before .before .before .before .before .before .before .before .before .before .before .before .before .args .keys .now) (c .before .before .before .before .before .before .before .before .before .before .before .before .before .args .table .now) (c .before .before .before .before .before .before .before .before .before .before .before .before .before .args .known) (c .before .before .before .before .before .before .before .before .before .before .before .before .before .args .notes .now) (c .before .before .before .before .before .before .before .before .before .before .before .before .before .args .out .now) (c .before .before .before .before .before .before .before .before .before .before .before .before .before .args .start) (c .before .before .before .before .before .before .before .before .before .before .before .before .before .pre) (c .before .before .before .before .before .before .loop .inv .0) (c .before .before .put-others .ensures)
 
 pub put-rows-spec : {M : Type 1} → statement M
 put-rows-spec =
@@ -44,11 +42,11 @@ put-rows-spec =
     (tie.spec
     Inv-loop
     μ-loop
+    least-requires
     loop-holds
-    find-requires
-    put-row-requires
-    add-at
+    put-noted-requires
     loop-less
     loop-again
+    put-others-requires
     same-length
     returns)

@@ -4,7 +4,6 @@ use Prim.Native.Nat.{_+_, _-_}
 use mathlib.Core.Path.{sym, subst, _∙_}
 use native.Mathlib.Omega.{arith}
 use lib.ListN.{length}
-use Rattle.to_addresses.specs.declared.Passed.{Passed}
 use Rattle.to_addresses.proofs.Passing.{line-order, line-inside}
 use Rattle.to_addresses.proofs.Seeking.{Seeking, seeking-start, seeking-few, seeking-here, seeking-next, seeking-end}
 use Rattle.to_addresses.proofs.scan.Statement.{statement}

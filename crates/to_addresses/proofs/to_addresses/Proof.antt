@@ -1,7 +1,6 @@
 -- The header, the labels, and the rest.
 use Prim.Native.Nat.{_*_}
 use mathlib.Core.Path.{sym}
-use native.Mathlib.Omega.{arith}
 use lib.Seq.{length-take-le}
 use Rattle.to_addresses.proofs.Finishing.{no-header, parts, move-done}
 use borrow.Author.Needs.{needs}
@@ -20,38 +19,29 @@ returns c = no-header (c .before .before .before .before .before .args .text .no
 slice-aggregate-collect : tie.Need-slice-aggregate-collect
 slice-aggregate-collect c = search needs
 
-slice-aggregate-collect-2 : tie.Need-slice-aggregate-collect-2
-slice-aggregate-collect-2 c = search needs
-
 collect-requires : tie.Need-collect-requires
 collect-requires c κs = search needs
 
 least-requires : tie.Need-least-requires
 least-requires c κs = search needs
 
-mul-m : tie.Need-mul-m
-mul-m c = search needs
+mul-n : tie.Need-mul-n
+mul-n c = search needs
 
 array-share-prefix-keys : tie.Need-array-share-prefix-keys
 array-share-prefix-keys c = search needs
 
 slice-aggregate-finish : tie.Need-slice-aggregate-finish
-slice-aggregate-finish c = sym (length-take-le (2 * c .before .least .result) (c .before .before .before .before .collect .last .1 .1 .0) (search needs))
-
-array-share-prefix-places : tie.Need-array-share-prefix-places
-array-share-prefix-places c = search needs
-
-slice-aggregate-finish-2 : tie.Need-slice-aggregate-finish-2
-slice-aggregate-finish-2 c = sym (length-take-le (c .before .before .least .result) (c .before .before .before .before .before .collect .last .1 .1 .1 .0) (search needs))
+slice-aggregate-finish c = sym (length-take-le (3 * c .before .least .result) (c .before .before .before .collect .last .1 .1 .0) (search needs))
 
 finish-requires : tie.Need-finish-requires
-finish-requires c κs = parts (c .before .before .before .before .before .before .before .before .before .before .before .before .before .args .text .now) (c .before .before .before .before .before .before .before .before .before .before .header-end .ensures) (c .before .before .before .before .before .before .before .before .before .if1 .left) (c .before .before .before .before .before .before .collect .ensures) (c .before .before .before .least .result) (c .before .before .before .least .ensures .0) (search needs) (search needs)
+finish-requires c κs = parts (c .before .before .before .before .before .before .before .before .before .before .args .text .now) (c .before .before .before .before .before .before .before .header-end .ensures) (c .before .before .before .before .before .before .if1 .left) (c .before .before .before .before .collect .ensures) (c .before .before .least .result) (search needs)
 
 same-length : tie.Need-same-length
 same-length c = search needs
 
 returns-2 : tie.Need-returns-2
-returns-2 c = move-done (c .before .before .before .before .before .before .before .before .before .before .before .before .before .before .before .before .args .text .now) (c .before .before .before .before .before .before .before .before .before .before .before .before .before .header-end .ensures) (c .before .before .before .before .before .before .before .before .before .before .before .before .if1 .left) (c .before .before .before .before .before .before .before .before .before .before .before .before .before .before .before .before .args .out .now) (c .before .before .finish .ensures)
+returns-2 c = move-done (c .before .before .before .before .before .before .before .before .before .before .before .before .before .args .text .now) (c .before .before .before .before .before .before .before .before .before .before .header-end .ensures) (c .before .before .before .before .before .before .before .before .before .if1 .left) (c .before .before .before .before .before .before .before .before .before .before .before .before .before .args .out .now) (c .before .before .finish .ensures)
 
 pub to-addresses-spec : {M : Type 1} → statement M
 to-addresses-spec =
@@ -61,14 +51,11 @@ to-addresses-spec =
     refused-requires
     returns
     slice-aggregate-collect
-    slice-aggregate-collect-2
     collect-requires
     least-requires
-    mul-m
+    mul-n
     array-share-prefix-keys
     slice-aggregate-finish
-    array-share-prefix-places
-    slice-aggregate-finish-2
     finish-requires
     same-length
     returns-2)

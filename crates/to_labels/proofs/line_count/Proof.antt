@@ -1,44 +1,52 @@
--- A line for each line feed, and one more where the last has none.
+-- Line by line.
+use Prim.Native.Nat.{_+_, _-_, _≤_}
+use mathlib.Core.Path.{_≡_, ap}
 use native.Mathlib.Omega.{arith}
-use lib.ListN.{length-drop}
-use Rattle.to_labels.proofs.Feeds.{feeds-none, feeds-lines}
 use borrow.Author.Needs.{needs}
+use lib.ListN.{length, drop}
+use Rattle.text.specs.Cut.{lineFeed, rowsIn}
+use Rattle.text.proofs.Cuts.{found-order, found-inside}
+use Rattle.text.proofs.Rows.{rows-next, rows-none}
 use Rattle.to_labels.proofs.line_count.Statement.{statement}
 use Rattle.to_labels.proofs.line_count.Tie as tie
 
-feed-count-requires : tie.Need-feed-count-requires
-feed-count-requires c κs = search needs
+abbrev Inv-loop : tie.InvT-loop
+Inv-loop text from n₀ at₀ n at = (n + length (rowsIn (drop at text)) ≡ length (rowsIn (drop from text))) × (n ≤ at) × (n ≤ length text)
 
-returns : tie.Need-returns
-returns c = feeds-none (c .before .before .before .args .text .now) (c .before .before .before .args .from) (c .if1 .taken) (c .before .feed-count .ensures)
+abbrev μ-loop : tie.MeasureT-loop
+μ-loop text from n₀ at₀ n at = length text - at
 
-add-result : tie.Need-add-result
-add-result c = omega (arith, c .before .feed-count .ensures .few, length-drop (c .before .before .before .args .from) (c .before .before .before .args .text .now), c .before .before .before .good)
+loop-holds : tie.Need-loop-holds Inv-loop μ-loop
+loop-holds c = (omega arith, omega arith, omega arith)
 
-sub-feed : tie.Need-sub-feed
-sub-feed c = search needs
+find-requires : tie.Need-find-requires Inv-loop μ-loop
+find-requires c κs = search needs
 
-shared-slice-read-feed : tie.Need-shared-slice-read-feed
-shared-slice-read-feed c = search needs
+add-at : tie.Need-add-at Inv-loop μ-loop
+add-at c = omega (arith, found-inside lineFeed (c .before .before .loop .at) (c .before .before .before .before .args .text .now) (c .find .ensures) (omega (arith, c .before .loop-test .taken)), c .before .before .before .before .good)
 
-feed-requires : tie.Need-feed-requires
-feed-requires c κs = search needs
+add-n : tie.Need-add-n Inv-loop μ-loop
+add-n c = omega (arith, c .before .before .loop .inv .2, c .before .before .before .before .good)
 
-sub-result : tie.Need-sub-result
-sub-result c = search needs
+loop-less : tie.Need-loop-less Inv-loop μ-loop
+loop-less c = omega (arith, found-order lineFeed (c .before .before .loop .at) (c .before .before .before .before .args .text .now) (c .find .ensures), c .before .loop-test .taken)
 
-returns-2 : tie.Need-returns-2
-returns-2 c = feeds-lines (c .before .before .before .before .before .args .text .now) (c .before .before .before .before .before .args .from) (c .before .before .if1 .left) (omega (arith, c .before .before .before .before .before .good)) (c .before .before .before .feed-count .ensures) (c .feed .ensures .0)
+loop-again : tie.Need-loop-again Inv-loop μ-loop
+loop-again c = (
+  omega
+      (arith, c .before .before .loop .inv .0, ap length (rows-next (c .before .before .before .before .args .text .now) (c .before .before .loop .at) (c .find .ensures) (c .before .loop-test .taken))),
+  omega (arith, c .before .before .loop .inv .1, found-order lineFeed (c .before .before .loop .at) (c .before .before .before .before .args .text .now) (c .find .ensures)),
+  omega (arith, c .before .before .loop .inv .1, c .before .loop-test .taken),
+)
+
+returns : tie.Need-returns Inv-loop μ-loop
+returns c =
+    record {
+      count = omega (arith, c .before .loop .inv .0, ap length (rows-none (c .before .before .before .args .text .now) (c .before .loop .at) (c .loop-test .left)));
+      few = omega (arith, c .before .loop .inv .2, c .before .before .before .good);
+    }
 
 pub line-count-spec : {M : Type 1} → statement M
 line-count-spec =
     tie.close
-    (tie.spec
-    feed-count-requires
-    returns
-    add-result
-    sub-feed
-    shared-slice-read-feed
-    feed-requires
-    sub-result
-    returns-2)
+    (tie.spec Inv-loop μ-loop loop-holds find-requires add-at add-n loop-less loop-again returns)

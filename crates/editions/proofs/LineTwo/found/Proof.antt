@@ -1,6 +1,4 @@
 -- By whether the place is one.
-use mathlib.Core.Path.{sym}
-use borrow.Author.Tests.{eq-eqb, ne-eqb}
 use Rattle.editions.proofs.Two.{found-none, found-here}
 use Rattle.editions.proofs.LineTwo.found.Statement.{statement}
 use Rattle.editions.proofs.LineTwo.found.Tie as tie

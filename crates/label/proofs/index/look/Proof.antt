@@ -4,7 +4,6 @@ use Prim.Native.Nat.{ℕ, _+_, _-_, _≤_, _<_}
 use mathlib.Core.Path.{ap, sym, subst, _∙_}
 use native.Mathlib.Omega.{arith}
 use borrow.Author.Count.{below-more}
-use Rattle.label.specs.declared.Key.{Key}
 use Rattle.label.specs.Key.{keyAt, count, seekOf}
 use Rattle.text.proofs.Bools.{never}
 use Rattle.label.proofs.Firsts.{DoubleTo, double-start, double-next, double-told}
