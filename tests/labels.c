@@ -429,11 +429,7 @@ static void try_name(uint64_t k)
     uint64_t spelling = k / 2 / (ROWS + 1) % SPELLINGS, flaw = k / 2 / (ROWS + 1) / SPELLINGS % 3, fields = below(3), f[6] = { 0 };
     start_for(way);
     put_bytes(way == TO_LABELS ? "0\tNOOP\n1\t" : "label\t1\nNOOP\n");
-    put_name(spelling, row->name);
-    if (fields == 1)
-        put_bytes("\t"), put_decimal(10 + below(10));
-    else
-        put_fields(f, fields ? 0 : row->count);
+    put_spelt(spelling, row, f, fields);
     if (flaw != 2)
         put_bytes("\n");
     if (flaw == 1)

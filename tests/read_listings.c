@@ -228,11 +228,7 @@ static void try_name(uint64_t k)
     good_fields(row, f);
     start_text(ahead);
     put_decimal(flaw == 1 ? ahead + 1 : ahead), put_bytes("\t");
-    put_name(spelling, row->name);
-    if (fields == 1)
-        put_bytes("\t"), put_decimal(10 + below(10));
-    else
-        put_fields(f, fields ? 0 : row->count);
+    put_spelt(spelling, row, f, fields);
     if (flaw != 2)
         put_bytes("\n");
     if (flaw == 3)

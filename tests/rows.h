@@ -66,6 +66,16 @@ static inline void put_fields(const uint64_t *f, int count)
         put_bytes("\t"), put_decimal(f[i]);
 }
 
+/* A name spelt so, and behind it the fields of the name (0), a single one (1) or none (2). */
+static inline void put_spelt(uint64_t spelling, const struct row *row, const uint64_t *f, uint64_t fields)
+{
+    put_name(spelling, row->name);
+    if (fields == 1)
+        put_bytes("\t"), put_decimal(10 + below(10));
+    else
+        put_fields(f, fields ? 0 : row->count);
+}
+
 static inline void put_row(uint64_t address, const struct row *row, const uint64_t f[6])
 {
     put_decimal(address);

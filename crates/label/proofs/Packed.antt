@@ -15,8 +15,8 @@ use Rattle.text.specs.Cut.{sameText}
 use Rattle.text.specs.Number.{between, isDigit}
 use Rattle.text.proofs.Alike.{same-text, same-self}
 use Rattle.text.proofs.Bools.{both, never}
-use Rattle.label.specs.First.{IsFirst}
-use Rattle.label.specs.Label.{labelSize, isLetter, isLabelByte, allLabelBytes, isLabel, firstName}
+use Rattle.label.specs.First.{firstName, IsFirst}
+use Rattle.label.specs.Label.{labelSize, isLetter, isLabelByte, allLabelBytes, isLabel}
 use Rattle.label.specs.Key.{half, valueOf, keyOf, keyAt, count, Holds}
 use Rattle.label.specs.declared.Key.{Key}
 use Rattle.label.proofs.Firsts.{first-one}

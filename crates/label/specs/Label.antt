@@ -1,11 +1,10 @@
 -- Labels of a listing. Document 02, CR 7: "any labels of 1 to 16 letters or digits".
 -- Letters and digits are ASCII, and case matters.
-use Prim.Native.Nat.{ℕ, suc}
+use Prim.Native.Nat.{ℕ}
 use mathlib.Core.Bool.{Bool, true, false, _||_, _&&_}
 use mathlib.Core.List.{List, [], _∷_}
 use lib.Dec.{leb}
 use lib.ListN.{length}
-use Rattle.instruction.specs.Bits.{pick}
 use Rattle.text.specs.Cut.{sameText}
 use Rattle.text.specs.Number.{between, isDigit}
 
@@ -32,8 +31,3 @@ isLabel bs = leb 1 (length bs) && (leb (length bs) labelSize && allLabelBytes bs
 abbrev pub among : List ℕ → List (List ℕ) → Bool
 among name [] = false
 among name (x ∷ xs) = sameText x name || among name xs
-
--- the first place of a name; the number of names where it has none
-abbrev pub firstName : List (List ℕ) → List ℕ → ℕ
-firstName [] name = 0
-firstName (x ∷ xs) name = pick (sameText x name) 0 (suc (firstName xs name))

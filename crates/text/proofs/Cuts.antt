@@ -1,6 +1,6 @@
 -- Laws of cutting: what was joined is cut into its pieces, what was cut is joined again, and where a cut is made.
 -- Assumes nothing.
-use Prim.Native.Nat.{ℕ, suc, _+_, _-_, _≤_, _<_}
+use Prim.Native.Nat.{ℕ, zero, suc, _+_, _-_, _≤_, _<_}
 use mathlib.Core.Path.{_≡_, refl, sym, ap, _∙_}
 use mathlib.Core.Bool.{Bool, true, false, not, _||_, _&&_}
 use mathlib.Core.List.{List, [], _∷_, _++_, append-nil}
@@ -9,7 +9,7 @@ use native.Mathlib.Numerals.{add-one}
 use borrow.Author.Tests.{eq-eqb, ne-eqb, eqb-true, eqb-false, not-true}
 use lib.Dec.{eqb}
 use lib.ListN.{length, take, drop, getD, drop-of-length-le, length-append, length-drop}
-use lib.Seq.{drop-cons, drop-drop}
+use lib.Seq.{drop-cons, drop-drop, take-nil}
 use Rattle.instruction.specs.Bits.{pick}
 use Rattle.text.specs.Cut.{onto, cut, joined, has, before, placeOf}
 use Rattle.text.proofs.Bools.{both, never}
@@ -265,3 +265,11 @@ module _ (x from : ℕ) (text : List ℕ) {r : ℕ} (f : r ≡ placeOf x from te
 
     pub cut-last-found : cut x (drop from text) ≡ drop from text ∷ []
     cut-last-found = cut-last x rest found-none
+
+-- ---- a part of a part
+
+pub drop-take : (n m : ℕ) (l : List ℕ) → drop n (take m l) ≡ take (m - n) (drop n l)
+drop-take zero m l = let q : m ≡ m - 0 = omega arith in ap (λ (k : ℕ). take k l) q
+drop-take (suc n) zero l = sym (ap (λ (k : ℕ). take k (drop (suc n) l)) (let q : 0 - suc n ≡ 0 = omega arith in q))
+drop-take (suc n) (suc m) [] = sym (take-nil (suc m - suc n))
+drop-take (suc n) (suc m) (x ∷ xs) = let q : m - n ≡ suc m - suc n = omega arith in drop-take n m xs ∙ ap (λ (k : ℕ). take k (drop n xs)) q

@@ -14,8 +14,8 @@ use Rattle.instruction.specs.Form.{filled}
 use Rattle.text.specs.Cut.{Row, rowAt, fieldsIn, sameText}
 use Rattle.text.proofs.Alike.{same-text, same-self}
 use Rattle.text.proofs.Bools.{never}
-use Rattle.label.specs.Label.{among, firstName}
-use Rattle.label.specs.First.{IsFirst}
+use Rattle.label.specs.Label.{among}
+use Rattle.label.specs.First.{firstName, IsFirst}
 use Rattle.label.proofs.Packed.{first-name}
 use Rattle.editions.specs.Editions.{isLabelLine, labelIn, isShapedTwo, isKnownTwo, defines, haveWord, labelNumber, wordNumber, numberTwo}
 use Rattle.editions.specs.Moves.{Definition, definedFrom, labelsOf}

@@ -8,11 +8,11 @@ use native.Mathlib.Omega.{arith}
 use borrow.Author.Tests.{lt-ltb, le-ltb, ne-eqb}
 use lib.Dec.{eqb}
 use lib.ListN.{length, getD, take, drop, length-drop}
-use lib.Seq.{drop-drop, length-take-le, take-nil, getD-drop, getD-take}
+use lib.Seq.{drop-drop, length-take-le, getD-drop, getD-take}
 use Rattle.instruction.specs.Bits.{pick}
 use Rattle.text.specs.Cut.{tab, lineFeed, onto, cut, sameText, placeOf, Row, rowAt, fieldsIn, fieldsAfter}
 use Rattle.text.proofs.Bools.{both, never, and-false}
-use Rattle.text.proofs.Cuts.{found-order, found-inside}
+use Rattle.text.proofs.Cuts.{found-order, found-inside, drop-take}
 use Rattle.text.proofs.Rows.{rows-next, rows-none}
 use Rattle.label.specs.Label.{isLabel}
 use Rattle.editions.specs.Editions.{isLabelLine, isShapedTwo, labelIn, defines}
@@ -25,12 +25,6 @@ use Rattle.to_addresses.specs.declared.Defining.{Defining}
 use Rattle.to_addresses.specs.declared.Passed.{Passed}
 
 -- ---- what a line defines
-
-drop-take : (n m : ℕ) (l : List ℕ) → drop n (take m l) ≡ take (m - n) (drop n l)
-drop-take zero m l = let q : m ≡ m - 0 = omega arith in ap (λ (k : ℕ). take k l) q
-drop-take (suc n) zero l = sym (ap (λ (k : ℕ). take k (drop (suc n) l)) (let q : 0 - suc n ≡ 0 = omega arith in q))
-drop-take (suc n) (suc m) [] = sym (take-nil (suc m - suc n))
-drop-take (suc n) (suc m) (x ∷ xs) = let q : m - n ≡ suc m - suc n = omega arith in drop-take n m xs ∙ ap (λ (k : ℕ). take k (drop n xs)) q
 
 -- a part of a line is a part of the text
 pub part-of : (text : List ℕ) (at end from : ℕ) → labelTo text (at + from) end ≡ drop from (take (end - at) (drop at text))

@@ -12,7 +12,8 @@ use Rattle.text.specs.Cut.{lineFeed, placeOf, rowAt, fieldsIn, sameText}
 use Rattle.text.proofs.Bools.{both, never}
 use Rattle.text.proofs.Cuts.{found-order}
 use Rattle.text.proofs.Rows.{rows-next, rows-none}
-use Rattle.label.specs.Label.{isLabel, firstName}
+use Rattle.label.specs.Label.{isLabel}
+use Rattle.label.specs.First.{firstName}
 use Rattle.label.specs.Key.{keyOf, meansAt, count, seekOf}
 use Rattle.label.specs.declared.Key.{Key}
 use Rattle.label.proofs.Packed.{label-found}

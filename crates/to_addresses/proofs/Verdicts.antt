@@ -16,7 +16,7 @@ use Rattle.instruction.specs.Form.{filled}
 use Rattle.text.specs.Cut.{lineFeed, placeOf, Row, rowAt, fieldsIn}
 use Rattle.text.proofs.Cuts.{found-order, found-inside}
 use Rattle.text.proofs.Rows.{rows-next, rows-none}
-use Rattle.label.specs.Label.{firstName}
+use Rattle.label.specs.First.{firstName}
 use Rattle.editions.specs.Editions.{lineOf, isLabelLine, labelIn, isShapedTwo, wordNumber, numberTwo}
 use Rattle.editions.specs.Moves.{refusedAt, moved, Definition, labelsOf, labelsPast, judgedTwo, fieldsPlaced, addressedFrom}
 use Rattle.editions.specs.Told.{shapeTwo, RoomFor, Takes}

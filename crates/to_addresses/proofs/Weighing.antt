@@ -16,7 +16,8 @@ use Rattle.text.specs.Line.{decimal}
 use Rattle.text.proofs.Bools.{both, never}
 use Rattle.text.proofs.Cuts.{found-order, found-inside}
 use Rattle.fields.specs.Fields.{allNumbers}
-use Rattle.label.specs.Label.{isLabel, among, firstName}
+use Rattle.label.specs.Label.{isLabel, among}
+use Rattle.label.specs.First.{firstName}
 use Rattle.editions.specs.Editions.{lineOf, isLabelLine, labelIn, jumpsTwo, targetTwo, fieldsTwo, wordNumber}
 use Rattle.editions.specs.Moves.{labelsOf, meaningIn, fieldsPlaced}
 use Rattle.editions.specs.Told.{shapeTwo, taken, Takes, TellsRow}

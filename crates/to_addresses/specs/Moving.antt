@@ -10,8 +10,8 @@ use Rattle.instruction.specs.Form.{filled}
 use Rattle.buffer.specs.Put.{Fits, Put}
 use Rattle.text.specs.Line.{decimal}
 use Rattle.text.specs.Cut.{tab, lineFeed, placeOf, Row, rowAt, rowsIn, fieldsIn}
-use Rattle.label.specs.Label.{firstName, isLabel}
-use Rattle.label.specs.First.{IsDouble}
+use Rattle.label.specs.Label.{isLabel}
+use Rattle.label.specs.First.{firstName, IsDouble}
 use Rattle.label.specs.Key.{keyOf, keyAt, meansAt, count, Holds, Looked}
 use Rattle.label.specs.declared.Key.{Key}
 use Rattle.editions.specs.Editions.{isLabelLine, labelIn, lineOf, wordNumber, defines}

@@ -1,6 +1,6 @@
 -- Laws of a line's parts: what stands between places of the text is the line moved.
 -- Assumes nothing.
-use Prim.Native.Nat.{ℕ, zero, suc, _+_, _-_, _≤_, _<_}
+use Prim.Native.Nat.{ℕ, _+_, _-_, _≤_, _<_}
 use mathlib.Core.Path.{_≡_, refl, sym, ap, ap₂, subst, _∙_}
 use mathlib.Core.Bool.{Bool, true}
 use mathlib.Core.List.{List, [], _∷_, _++_}
@@ -8,11 +8,11 @@ use native.Mathlib.Omega.{arith}
 use native.Mathlib.Decide.{ℕ-discrete}
 use borrow.Author.Tests.{eq-eqb, ne-eqb}
 use lib.ListN.{length, take, drop, length-drop}
-use lib.Seq.{drop-drop, take-take, take-nil, length-take-le}
+use lib.Seq.{drop-drop, take-take, length-take-le}
 use Rattle.instruction.specs.Bits.{pick}
 use Rattle.text.specs.Cut.{tab, lineFeed, cut, placeOf, rowAt}
 use Rattle.text.specs.Line.{letters, decimal}
-use Rattle.text.proofs.Cuts.{found-order, found-inside}
+use Rattle.text.proofs.Cuts.{found-order, found-inside, drop-take}
 use Rattle.editions.specs.Editions.{fieldsNumberOne}
 use Rattle.editions.specs.Told.{nowhere, finalFrom, GlancesOne}
 use Rattle.editions.specs.declared.LineOne.{LineOne}
@@ -20,12 +20,6 @@ use Rattle.to_labels.specs.Loops.{Named, Movable, partsText, PartsOf, ta
 use Rattle.to_labels.specs.declared.Parts.{Parts}
 use Rattle.to_labels.proofs.Judging.{good-two}
 use Rattle.to_labels.proofs.Naming.{named-well, plain-lent, jump-lent}
-
-drop-take : (n m : ℕ) (l : List ℕ) → drop n (take m l) ≡ take (m - n) (drop n l)
-drop-take zero m l = let q : m ≡ m - 0 = omega arith in ap (λ (k : ℕ). take k l) q
-drop-take (suc n) zero l = sym (ap (λ (k : ℕ). take k (drop (suc n) l)) (let q : 0 - suc n ≡ 0 = omega arith in q))
-drop-take (suc n) (suc m) [] = sym (take-nil (suc m - suc n))
-drop-take (suc n) (suc m) (x ∷ xs) = let q : m - n ≡ suc m - suc n = omega arith in drop-take n m xs ∙ ap (λ (k : ℕ). take k (drop n xs)) q
 
 -- a part of a line is a part of the text
 part-in : (text : List ℕ) (at size x y z : ℕ) → y ≤ size → z ≡ at + y → take (y - x) (drop x (take size (drop at text))) ≡ take (z - (at + x)) (drop (at + x) text)

@@ -1,6 +1,6 @@
+-- A line without its shape, a label line, a jump, or another word.
 use mathlib.Core.Bool.{false}
 use Prim.Native.Nat.{_-_}
--- A line without its shape, a label line, a jump, or another word.
 use mathlib.Core.Path.{sym, subst}
 use native.Mathlib.Omega.{arith}
 use Rattle.editions.specs.declared.Room.{Room}

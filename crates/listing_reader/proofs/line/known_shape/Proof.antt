@@ -1,3 +1,4 @@
+-- The fields of the name, and then the address.
 use native.Mathlib.Omega.{arith}
 use borrow.Author.Tests.{not-true, not-false}
 use Rattle.text.specs.Cut.{fieldsAfter}
@@ -5,40 +6,28 @@ use Rattle.listing_reader.proofs.Fields.{count-small, gathered-61, gath
 use borrow.Author.Needs.{needs}
 use Rattle.listing_reader.proofs.line.known_shape.Statement.{statement}
 use Rattle.listing_reader.proofs.line.known_shape.Tie as tie
-use Rattle.listing_reader.proofs.line.known_shape.Reads as reads
-use Rattle.listing_reader.proofs.line.known_shape.Lts as lts
-use Rattle.fields.proofs.read_numbers.Reads as read-numbers-reads
-use Rattle.listing_reader.proofs.line.field_count.Reads as field-count-reads
 
--- src/line.rt:71:33
 field-count-requires : tie.Need-field-count-requires
 field-count-requires c κs = search needs
 
--- src/line.rt:71:9
 read-numbers-requires : tie.Need-read-numbers-requires
 read-numbers-requires c κs = (c .before .before .before .before .pre .0, omega (arith, c .before .field-count .ensures, count-small (c .before .before .before .before .args .row) (c .before .before .before .before .pre .1), c .before .before .before .before .pre .2))
 
--- src/line.rt:72:9
 same-length : tie.Need-same-length
 same-length c = search needs
 
--- src/line.rt:72:9
 returns : tie.Need-returns
 returns c = gathered-61 (c .before .before .before .before .before .before .before .before .args .row) (c .before .before .before .before .before .before .before .before .args .address) (c .before .before .before .before .before .before .before .before .args .a) (c .before .before .before .before .before .before .before .before .pre .1) (fieldsAfter (c .before .before .before .before .before .before .before .before .args .end) (c .before .before .before .before .before .before .before .before .args .line .now)) (c .before .before .before .before .before .field-count .ensures) (c .before .before .before .read-numbers .ensures) (not-true _ (c .if1 .taken))
 
--- src/line.rt:75:9
 same-length-2 : tie.Need-same-length-2
 same-length-2 c = search needs
 
--- src/line.rt:75:9
 returns-2 : tie.Need-returns-2
 returns-2 c = gathered-62 (c .before .before .before .before .before .before .before .before .before .args .row) (c .before .before .before .before .before .before .before .before .before .args .address) (c .before .before .before .before .before .before .before .before .before .args .a) (c .before .before .before .before .before .before .before .before .before .pre .1) (fieldsAfter (c .before .before .before .before .before .before .before .before .before .args .end) (c .before .before .before .before .before .before .before .before .before .args .line .now)) (c .before .before .before .before .before .before .field-count .ensures) (c .before .before .before .before .read-numbers .ensures) (not-false _ (c .before .if1 .left)) (c .if2 .taken)
 
--- src/line.rt:67:1
 same-length-3 : tie.Need-same-length-3
 same-length-3 c = search needs
 
--- src/line.rt:67:1
 returns-3 : tie.Need-returns-3
 returns-3 c = gathered-good (c .before .before .before .before .before .before .before .before .before .args .row) (c .before .before .before .before .before .before .before .before .before .args .address) (c .before .before .before .before .before .before .before .before .before .args .a) (c .before .before .before .before .before .before .before .before .before .pre .1) (fieldsAfter (c .before .before .before .before .before .before .before .before .before .args .end) (c .before .before .before .before .before .before .before .before .before .args .line .now)) (c .before .before .before .before .before .before .field-count .ensures) (c .before .before .before .before .read-numbers .ensures) (not-false _ (c .before .if1 .left)) (c .if2 .left)
 

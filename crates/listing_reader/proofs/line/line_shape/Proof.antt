@@ -1,83 +1,59 @@
+-- The address, the name, and what is behind it.
 use native.Mathlib.Omega.{arith}
 use borrow.Author.Tests.{not-true, not-false}
 use Rattle.listing_reader.proofs.Fields.{line-not, line-alone, line-known, line-unknown, name-inside, name-order}
 use borrow.Author.Needs.{needs}
 use Rattle.listing_reader.proofs.line.line_shape.Statement.{statement}
 use Rattle.listing_reader.proofs.line.line_shape.Tie as tie
-use Rattle.listing_reader.proofs.line.line_shape.Reads as reads
-use Rattle.listing_reader.proofs.line.line_shape.Lts as lts
-use Rattle.listing_reader.proofs.line.Shape.refused.Reads as refused-reads
-use Rattle.listing_reader.proofs.line.known_shape.Reads as known-shape-reads
-use Rattle.listing_reader.proofs.line.unknown_shape.Reads as unknown-shape-reads
-use Rattle.names.proofs.named.Reads as named-reads
-use Rattle.text.proofs.find.Reads as find-reads
-use Rattle.text.proofs.number_from.Reads as number-from-reads
 
--- src/line.rt:95:9
 number-from-requires : tie.Need-number-from-requires
 number-from-requires c κs = search needs
 
--- src/line.rt:97:9
 refused-requires : tie.Need-refused-requires
 refused-requires c κs = search needs
 
--- src/line.rt:97:9
 returns : tie.Need-returns
 returns c = line-not (c .before .before .before .before .before .before .args .line .now) (c .before .before .before .before .before .before .args .a) (c .before .before .before .before .before .before .args .values .now) (c .before .before .before .number-from .ensures) (not-true _ (c .before .if1 .taken)) (c .refused .ensures)
 
--- src/line.rt:100:9
 refused-requires-2 : tie.Need-refused-requires-2
 refused-requires-2 c κs = search needs
 
--- src/line.rt:100:9
 returns-2 : tie.Need-returns-2
 returns-2 c = line-alone (c .before .before .before .before .before .before .before .before .args .line .now) (c .before .before .before .before .before .before .before .before .args .a) (c .before .before .before .before .before .before .before .before .args .values .now) (c .before .before .before .before .before .number-from .ensures) (not-false _ (c .before .before .before .if1 .left)) (c .before .if2 .taken) (c .refused2 .ensures)
 
--- src/line.rt:102:16
 add-from : tie.Need-add-from
 add-from c = search needs
 
--- src/line.rt:103:9
 find-requires : tie.Need-find-requires
 find-requires c κs = search needs
 
--- src/line.rt:104:21
 sub-named : tie.Need-sub-named
 sub-named c = search needs
 
--- src/line.rt:104:21
 part-named-start : tie.Need-part-named-start
 part-named-start c = search needs
 
--- src/line.rt:104:21
 part-named-end : tie.Need-part-named-end
 part-named-end c = omega (arith, name-inside (c .before .before .before .before .before .before .before .before .before .args .line .now) (c .before .before .before .before .before .before .before .before .before .args .a) (c .before .before .before .before .before .before .before .before .before .args .values .now) (c .before .before .before .before .before .before .number-from .ensures) (not-false _ (c .before .before .before .before .if1 .left)) (c .before .before .if2 .left) (c .find .ensures), name-order (c .before .before .before .before .before .before .before .before .before .args .line .now) (c .before .before .before .before .before .before .before .before .before .args .a) (c .before .before .before .before .before .before .before .before .before .args .values .now) (c .before .before .before .before .before .before .number-from .ensures) (not-false _ (c .before .before .before .before .if1 .left)) (c .before .before .if2 .left) (c .find .ensures))
 
--- src/line.rt:104:9
 named-requires : tie.Need-named-requires
 named-requires c κs = search needs
 
--- src/line.rt:106:13
 known-shape-requires : tie.Need-known-shape-requires
 known-shape-requires c κs = (name-inside (c .before .before .before .before .before .before .before .before .before .before .before .before .before .args .line .now) (c .before .before .before .before .before .before .before .before .before .before .before .before .before .args .a) (c .before .before .before .before .before .before .before .before .before .before .before .before .before .args .values .now) (c .before .before .before .before .before .before .before .before .before .before .number-from .ensures) (not-false _ (c .before .before .before .before .before .before .before .before .if1 .left)) (c .before .before .before .before .before .before .if2 .left) (c .before .before .before .before .find .ensures), c .before .if3 .taken, c .before .before .before .before .before .before .before .before .before .before .before .before .before .pre)
 
--- src/line.rt:107:9
 same-length : tie.Need-same-length
 same-length c = search needs
 
--- src/line.rt:107:9
 returns-3 : tie.Need-returns-3
 returns-3 c = line-known (c .before .before .before .before .before .before .before .before .before .before .before .before .before .before .before .before .args .line .now) (c .before .before .before .before .before .before .before .before .before .before .before .before .before .before .before .before .args .a) (c .before .before .before .before .before .before .before .before .before .before .before .before .before .before .before .before .args .values .now) (c .before .before .before .before .before .before .before .before .before .before .before .before .before .number-from .ensures) (not-false _ (c .before .before .before .before .before .before .before .before .before .before .before .if1 .left)) (c .before .before .before .before .before .before .before .before .before .if2 .left) (c .before .before .before .before .before .before .before .find .ensures) (c .before .before .before .before .before .named .ensures) (c .before .before .before .before .if3 .taken) (c .before .before .known-shape .ensures)
 
--- src/line.rt:109:9
 unknown-shape-requires : tie.Need-unknown-shape-requires
 unknown-shape-requires c κs = search needs
 
--- src/line.rt:110:5
 refused-requires-3 : tie.Need-refused-requires-3
 refused-requires-3 c κs = search needs
 
--- src/line.rt:91:1
 returns-4 : tie.Need-returns-4
 returns-4 c = line-unknown (c .before .before .before .before .before .before .before .before .before .before .before .before .before .before .args .line .now) (c .before .before .before .before .before .before .before .before .before .before .before .before .before .before .args .a) (c .before .before .before .before .before .before .before .before .before .before .before .before .before .before .args .values .now) (c .before .before .before .before .before .before .before .before .before .before .before .number-from .ensures) (not-false _ (c .before .before .before .before .before .before .before .before .before .if1 .left)) (c .before .before .before .before .before .before .before .if2 .left) (c .before .before .before .before .before .find .ensures) (c .before .before .before .named .ensures) (c .before .before .if3 .left) (c .before .unknown-shape .ensures) (c .refused3 .ensures)
 

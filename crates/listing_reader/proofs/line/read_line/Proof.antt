@@ -1,59 +1,43 @@
+-- Refused before the writer is asked, or as the writer answers.
 use Rattle.listing_reader.proofs.Fields.{read-refused, read-written}
 use mathlib.Core.Path.{_∙_}
 use borrow.Author.Needs.{needs}
 use Rattle.listing_reader.proofs.line.read_line.Statement.{statement}
 use Rattle.listing_reader.proofs.line.read_line.Tie as tie
-use Rattle.listing_reader.proofs.line.read_line.Reads as reads
-use Rattle.listing_reader.proofs.line.read_line.Lts as lts
-use Rattle.laid.proofs.fields.body_of.Reads as body-of-reads
-use Rattle.listing_reader.proofs.line.line_shape.Reads as line-shape-reads
-use Rattle.writer.proofs.write.Reads as write-reads
 
--- src/line.rt:118:37
 slice-aggregate-line-shape : tie.Need-slice-aggregate-line-shape
 slice-aggregate-line-shape c = search needs
 
--- src/line.rt:118:9
 line-shape-requires : tie.Need-line-shape-requires
 line-shape-requires c κs = search needs
 
--- src/line.rt:120:9
 returns : tie.Need-returns
 returns c = read-refused (c .before .before .before .before .before .before .args .rules) (c .before .before .before .before .before .before .args .line .now) (c .before .before .before .before .before .before .args .a) (c .before .before .before .line-shape .ensures) (c .if1 .taken)
 
--- src/line.rt:125:35
 array-read-body-of : tie.Need-array-read-body-of
 array-read-body-of c = search needs
 
--- src/line.rt:125:46
 array-read-body-of-2 : tie.Need-array-read-body-of-2
 array-read-body-of-2 c = search needs
 
--- src/line.rt:125:57
 array-read-body-of-3 : tie.Need-array-read-body-of-3
 array-read-body-of-3 c = search needs
 
--- src/line.rt:125:68
 array-read-body-of-4 : tie.Need-array-read-body-of-4
 array-read-body-of-4 c = search needs
 
--- src/line.rt:125:9
 body-of-requires : tie.Need-body-of-requires
 body-of-requires c κs = search needs
 
--- src/line.rt:127:17
 array-read-t13 : tie.Need-array-read-t13
 array-read-t13 c = search needs
 
--- src/line.rt:128:16
 array-read-t22 : tie.Need-array-read-t22
 array-read-t22 c = search needs
 
--- src/line.rt:131:5
 write-requires : tie.Need-write-requires
 write-requires c κs = search needs
 
--- src/line.rt:114:1
 returns-2 : tie.Need-returns-2
 returns-2 c = c .write .ensures ∙ read-written (c .before .before .before .before .before .before .before .before .args .rules) (c .before .before .before .before .before .before .before .before .args .line .now) (c .before .before .before .before .before .before .before .before .args .a) (c .before .before .before .before .before .line-shape .ensures) (c .before .before .if1 .left) (c .before .body-of .ensures)
 

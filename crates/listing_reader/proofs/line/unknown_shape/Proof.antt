@@ -1,14 +1,11 @@
+-- Only the address is judged.
 use borrow.Author.Tests.{eq-eqb, ne-eqb}
 use Rattle.listing_reader.proofs.line.unknown_shape.Statement.{statement}
 use Rattle.listing_reader.proofs.line.unknown_shape.Tie as tie
-use Rattle.listing_reader.proofs.line.unknown_shape.Reads as reads
-use Rattle.listing_reader.proofs.line.unknown_shape.Lts as lts
 
--- src/line.rt:85:9
 returns : tie.Need-returns
 returns c = rw (ne-eqb (c .before .args .address) (c .before .args .a) (c .if1 .taken))
 
--- src/line.rt:81:1
 returns-2 : tie.Need-returns-2
 returns-2 c = rw (eq-eqb (c .before .args .address) (c .before .args .a) (c .if1 .left))
 
