@@ -7,6 +7,7 @@
 
 enum { WORDS = 65536, FEWER = 4096, STEPS = 1000000, LISTED = 2048, WAVE = 16, MEMORY = 1 << 24, NEST = 16, ROUNDS = 12, TIMES = 4 };
 enum { LABELS = 30000 }; /* of WORDS words */
+enum { PART = 1000 }; /* the steps of one go-on */
 
 #define PLAY OP(0, HIGH | UINT64_C(2) << 24)
 #define REPEAT(to) OP(4, (uint64_t)(to))
@@ -52,6 +53,34 @@ static void our_check(void) { ours.number = aps2_check(words, n, WAVE, firmware,
 static void their_check(void) { theirs.number = second_check(words, n, WAVE, firmware, theirs.lent, room, theirs.place); }
 static void our_run(void) { ours.number = aps2_run(words, n, WAVE, firmware, NULL, 0, 0, ours.lent, room, STEPS, ours.answer); }
 static void their_run(void) { theirs.number = second_run(words, n, WAVE, firmware, NULL, 0, 0, theirs.lent, room, STEPS, theirs.answer); }
+
+/* The same steps in many go-ons, told as one run tells them. */
+static void tell_as_run(struct answer *a, const uint64_t state[55])
+{
+    a->answer[0] = a->number;
+    for (int i = 0; i < 53; i++)
+        a->answer[1 + i] = state[i];
+    a->answer[54] = a->bit[0];
+}
+
+static void our_go_ons(void)
+{
+    uint64_t state[55] = { 0 };
+    for (uint64_t budget = PART; budget <= STEPS; budget += PART)
+        ours.number = aps2_go_on(words, n, WAVE, firmware, NULL, 0, 0, ours.lent, room, budget, state, ours.bit);
+    tell_as_run(&ours, state);
+}
+
+static void their_go_ons(void)
+{
+    uint64_t state[55] = { 0 };
+    for (uint64_t budget = PART; budget <= STEPS; budget += PART)
+        theirs.number = second_go_on(words, n, WAVE, firmware, NULL, 0, 0, theirs.lent, room, budget, state, theirs.bit);
+    tell_as_run(&theirs, state);
+}
+
+/* Our own one run, in the place of the second program. */
+static void our_one_run(void) { theirs.number = aps2_run(words, n, WAVE, firmware, NULL, 0, 0, theirs.lent, room, STEPS, theirs.answer); }
 
 static void our_listing(void) { ours.number = aps2_listing(raw, 8 * n, firmware, (uint8_t *)ours.lent, 8 * room); }
 static void their_listing(void) { theirs.number = second_listing(raw, 8 * n, firmware, (uint8_t *)theirs.lent, 8 * room); }
@@ -257,7 +286,8 @@ static void modulated(void)
 }
 
 /* A line of the table: who works, on what, with how much lent, the number of words or steps that share the time, and the firmware. A line
-   with `fewer` does the work of the line before it on fewer words, and shows how the time grows. */
+   with `fewer` does the work of the line before it on fewer words, and shows how the time grows. A line `go-on-run` has our own one run in the
+   place of the second program's go-ons, and shows what the pauses cost. */
 struct line {
     const char *name;
     void (*ours)(void), (*theirs)(void), (*fill)(void);
@@ -273,6 +303,9 @@ struct line {
     { "check " family, our_check, their_check, fill, WORDS, WORDS, WORDS, 0, 0, 1e18, 1e18 }, \
     { "check-growth " family, our_check, their_check, fill, FEWER, FEWER, FEWER, 1, 0, 1e18, 1e18 }
 #define RUN(family, fill, n, firmware) { "run " family, our_run, their_run, fill, n, STEPS, STEPS, 0, firmware, 1e18, 1e18 }
+#define GO_ON(family, fill, n) \
+    { "go-on " family, our_go_ons, their_go_ons, fill, n, STEPS, STEPS, 0, 0, 1e18, 1e18 }, \
+    { "go-on-run " family, our_go_ons, our_one_run, fill, n, STEPS, STEPS, 0, 0, 1e18, 1e18 }
 
 #define LIST(family, fill) { "listing " family, our_listing, their_listing, fill, LISTED, 8 * LISTED, LISTED, 0, 0, 1e18, 1e18 }
 #define READ_LISTING(name, n, fewer) { name, our_read_listing, their_read_listing, text_mixed, n, n, n, fewer, 0, 1e18, 1e18 }
@@ -301,6 +334,8 @@ static struct line lines[] = {
     RUN("calls", nests, 2 * NEST + 2, 0),
     RUN("modulated", modulated, WORDS, 0),
     RUN("markers-older", markers, WORDS, 1),
+    GO_ON("plays", straight, WORDS),
+    GO_ON("tight", tight, 3),
     LIST("plays", listed_plays),
     LIST("mixed", listed_mixed),
     READ_LISTING("read-listing mixed 2048", LISTED, 0),

@@ -2,7 +2,7 @@
    No function keeps anything, allocates, or reads past what it is lent; every input gets an answer.
    The buffers of one call must not overlap, and no pointer may be null, also where its length is 0 (any other will do then). A call needs
    room on the stack: aps2_to_addresses 4,354 KiB, aps2_to_labels 1,602 KiB, aps2_check 321 KiB, aps2_listing 169 KiB, aps2_block 5 KiB,
-   the others 1 KiB. */
+   aps2_step and aps2_go_on 3 KiB, the others 1 KiB. */
 #ifndef APS2_H
 #define APS2_H
 
@@ -47,6 +47,24 @@ uint64_t aps2_check(const uint64_t *words, size_t n, uint64_t wave, uint64_t fir
    21 depth, 22-37 stack addresses, 38-53 stack counters, 54 the bit beside the end. */
 uint64_t aps2_run(const uint64_t *words, size_t n, uint64_t wave, uint64_t firmware, const uint8_t *messages, size_t messages_len,
                   uint32_t triggers, uint64_t *trace, size_t trace_len, uint64_t budget, uint64_t answer[55]);
+
+/* Pause and go on: a run in several calls, whose state the host holds and each call updates there. aps2_step does at most one step and returns
+   0 if it did; aps2_go_on does steps until one stops or the budget is spent. Otherwise both return how the run ended, with the numbers of
+   aps2_run from 10 on; after a fault the next call tells it again. Messages come as the whole list so far, the earlier ones unchanged, triggers
+   and budget as totals so far. With the same words, wave, firmware and trace, a run in several calls from the fresh state, the last an
+   aps2_go_on that is not refused, ends as one aps2_run with the last call's budget, messages and triggers.
+   state, all zeros being the fresh one: 0 address, 1 steps, 2 messages used, 3 trace length, 4-9 wait counts, 10-15 totals, 16 repeat counter,
+   17 register, 18 condition (0 none, 1 false, 2 true), 19 held, 20 depth, 21-36 stack addresses, 37-52 stack counters, 53 last time's budget,
+   54 last time's triggers. "Last time" is the last call that was not refused, also where it did no step. bit: the bit beside the number.
+   A refusal leaves state and trace as they were: 1, 2, 3 or 5 as in aps2_run, then 70 for a state that no run could leave, then 71 for fewer
+   triggers or less budget than last time. 70 judges these fields: address at most n; depth at most 16, stack addresses at most n, unused entries
+   zero; held at most 7 and at most the steps, and as many low engine words right below the address that pass form and 20; messages used at most
+   messages_len; trace length at most trace_len; steps at most last time's budget; wait counts at most steps less held, totals at most 2^32
+   times that; condition at most 2. A register above 255 or a counter above 65,535 is used as the number it is. */
+uint64_t aps2_step(const uint64_t *words, size_t n, uint64_t wave, uint64_t firmware, const uint8_t *messages, size_t messages_len,
+                   uint32_t triggers, uint64_t *trace, size_t trace_len, uint64_t budget, uint64_t state[55], uint64_t bit[1]);
+uint64_t aps2_go_on(const uint64_t *words, size_t n, uint64_t wave, uint64_t firmware, const uint8_t *messages, size_t messages_len,
+                    uint32_t triggers, uint64_t *trace, size_t trace_len, uint64_t budget, uint64_t state[55], uint64_t bit[1]);
 
 /* Lists raw words, eight bytes each, most significant first, at most 2,048: a header line, then a line for each word, parted by tabs
    and ended by line feeds. A word refused with 111 to 113 is listed as `BAD`, 11, that number and the bit, one refused with another as

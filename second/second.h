@@ -1,5 +1,5 @@
 /* The second program: documents 01 and 02 once more, in C, written from the documents and never from the proved code. All but places.c,
-   read_listing.c, block.c, unrolled.c and labels.c was reworked afterwards for the benchmark (docs/DECISIONS.md).
+   read_listing.c, block.c, unrolled.c, labels.c, left.c and pause.c was reworked afterwards for the benchmark (docs/DECISIONS.md).
    It is what the proved code is compared with. Names and meanings are those of include/aps2.h. */
 #ifndef SECOND_H
 #define SECOND_H
@@ -17,6 +17,14 @@ uint64_t second_places(const uint64_t *words, size_t n, uint64_t *marks, uint64_
 
 uint64_t second_run(const uint64_t *words, size_t n, uint64_t wave, uint64_t firmware, const uint8_t *messages, size_t messages_len,
                     uint32_t triggers, uint64_t *trace, size_t room, uint64_t budget, uint64_t answer[55]);
+uint64_t second_step(const uint64_t *words, size_t n, uint64_t wave, uint64_t firmware, const uint8_t *messages, size_t messages_len,
+                     uint32_t triggers, uint64_t *trace, size_t room, uint64_t budget, uint64_t state[55], uint64_t bit[1]);
+uint64_t second_go_on(const uint64_t *words, size_t n, uint64_t wave, uint64_t firmware, const uint8_t *messages, size_t messages_len,
+                      uint32_t triggers, uint64_t *trace, size_t room, uint64_t budget, uint64_t state[55], uint64_t bit[1]);
+
+/* Whether a run of these words could leave the state, by its fields; where not, a call gives 70. */
+int second_left(const uint64_t *words, size_t n, uint64_t wave, uint64_t firmware, size_t messages_len, size_t room, const uint64_t state[55]);
+
 size_t second_listing(const uint8_t *bytes, size_t len, uint64_t firmware, uint8_t *out, size_t out_len);
 uint64_t second_read_listing(const uint8_t *text, size_t len, uint64_t firmware, uint64_t *words, size_t words_len, uint64_t told[2]);
 

@@ -309,6 +309,99 @@ static void to_addresses_cases(void)
     family_of("vectors: to_addresses", (const int[]){ 0, 60, 61, 63, 64, 65, 66, 67, -1 });
 }
 
+enum { STATE = 55 };
+
+/* A line of calls: what a call is given, and what is expected of it. */
+struct call {
+    uint64_t which, wave, firmware, triggers, budget, number, bit, before[STATE], after[STATE];
+    size_t n, messages, room;
+    int goes_on;
+};
+static uint64_t trace_before[MOST], trace_after[MOST];
+
+/* The next word of the line, `step` or `go`: whether it is the second. */
+static int goes_on(void)
+{
+    while (next == ' ')
+        next = getchar();
+    int second = next == 'g';
+    while (next >= 'a' && next <= 'z')
+        next = getchar();
+    return second;
+}
+
+/* The next list of the line, of so many numbers; `=` stands for the one that is given. */
+static int numbers_or(const uint64_t *given, size_t count, int base, uint64_t *list, size_t most)
+{
+    while (next == ' ')
+        next = getchar();
+    if (next != '=')
+        return numbers(base, list, most) == count;
+    next = getchar();
+    for (size_t i = 0; i < count; i++)
+        list[i] = given[i];
+    return 1;
+}
+
+/* Tells whether its lists are as long as they must be. */
+static int read_call(struct call *c)
+{
+    c->which = number(10);
+    c->goes_on = goes_on();
+    c->wave = number(10);
+    c->firmware = number(10);
+    c->n = numbers(16, words, MOST);
+    c->messages = numbers(10, listed, MOST);
+    for (size_t i = 0; i < c->messages; i++)
+        messages[i] = (uint8_t)listed[i];
+    c->triggers = number(10);
+    c->room = numbers(16, trace_before, MOST);
+    c->budget = number(10);
+    int good = numbers(10, c->before, STATE) == STATE;
+    c->number = number(10);
+    c->bit = number(10);
+    good &= numbers_or(c->before, STATE, 10, c->after, STATE);
+    return numbers_or(trace_before, c->room, 16, trace_after, MOST) && good;
+}
+
+/* The state and the trace, with what is behind it, are these. */
+static int stands(const uint64_t state[STATE], const uint64_t expected[STATE], const uint64_t *trace_expected, size_t room)
+{
+    int good = 1;
+    for (int i = 0; i < STATE; i++)
+        good &= state[i] == expected[i];
+    for (size_t i = 0; i < MOST; i++)
+        good &= trace[i] == (i < room ? trace_expected[i] : 1);
+    return good;
+}
+
+/* Lines in a row with the same case are calls in a row: each starts from what our call before it left, which the line must say, too. */
+static void calls_cases(void)
+{
+    uint64_t last = 0, state[STATE], bit[1];
+    while (more()) {
+        struct call c;
+        int good = read_call(&c);
+        if (compared == 0 || c.which != last) {
+            for (int i = 0; i < STATE; i++)
+                state[i] = c.before[i];
+            for (size_t i = 0; i < MOST; i++)
+                trace[i] = i < c.room ? trace_before[i] : 1;
+        }
+        good &= stands(state, c.before, trace_before, c.room);
+        bit[0] = 99;
+        good &= (c.goes_on ? aps2_go_on : aps2_step)(words, c.n, c.wave, c.firmware, messages, c.messages, (uint32_t)c.triggers, trace, c.room,
+                                                     c.budget, state, bit) == c.number;
+        good &= bit[0] == c.bit && stands(state, c.after, trace_after, c.room);
+        last = c.which;
+        compared++;
+        meet(c.number);
+        if (!good)
+            disagree(compared);
+    }
+    family_of("vectors: calls", (const int[]){ 0, 1, 3, 5, 17, 20, 22, 24, 30, 31, 32, 40, 41, 42, 43, 70, 71, 112, 113, -1 });
+}
+
 static const struct {
     const char *name;
     void (*cases)(void);
@@ -316,6 +409,7 @@ static const struct {
     { "read", read_cases }, { "write", write_cases }, { "check", check_cases },
     { "run", run_cases }, { "listing", listing_cases }, { "read_listing", read_listing_cases },
     { "block", block_cases }, { "block_long", block_long_cases }, { "to_labels", to_labels_cases }, { "to_addresses", to_addresses_cases },
+    { "calls", calls_cases },
 };
 
 static int same(const char *a, const char *b)

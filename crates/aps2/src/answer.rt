@@ -6,11 +6,12 @@ use files::messages::messages_of;
 use files::out::save_text;
 use files::out::save_words;
 use instruction::QuadSamples;
-use instruction::Refusal;
 use instruction::Rules;
 use json::file;
 use json::state as by_name;
 use rehearsal::Answer;
+use report::end::say_end;
+use report::end::status_of;
 use report::state::say_state;
 use report::words::line_of;
 use report::words::say_hexadecimal;
@@ -19,7 +20,6 @@ use report::words::say_place;
 use report::words::say_trace;
 use report::words::say_typed;
 use request::asked::Asked;
-use sequence::Sequence;
 use told::say;
 use told::say_number;
 use verdict::Verdict;
@@ -67,31 +67,6 @@ pub fn check(words: &[u64], lines: &[u64], wave: QuadSamples, rules: Rules) {
     }
     say_refused(words, lines, verdict, rules);
     told::ends(told::REFUSED, number);
-}
-
-// Input, or a word; the numbers that tell a bit stand above all others.
-fn is_refused(end: Refusal) -> bool {
-    (end.number < Sequence::PAST_THE_END) | end.tells_bit()
-}
-
-// Refused, a fault, or an end that is none.
-fn say_end(end: Refusal) {
-    if is_refused(end) {
-        say(b"refused: ");
-    } else if end.number < Answer::BUDGET_SPENT {
-        say(b"faulted: ");
-    } else {
-        say(b"ended: ");
-    }
-    say_number(end.number);
-}
-
-fn status_of(end: Refusal) -> u64 {
-    if is_refused(end) | (end.number < Answer::BUDGET_SPENT) {
-        told::REFUSED
-    } else {
-        told::ACCEPTED
-    }
 }
 
 fn say_run(words: &[u64], lines: &[u64], trace: &[u64], answer: Answer, rules: Rules) {

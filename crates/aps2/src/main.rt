@@ -1,9 +1,10 @@
-// aps2: lists, checks and rehearses the words of a file, reads listings back, moves them and translates blocks, for the script of the same name.
+// aps2: lists, checks, rehearses and steps the words of a file, reads listings back, moves them and translates blocks, for the script of the same name.
 // What is worth a proof stands in the libraries; here what is asked for is answered.
 mod answer;
 mod moving;
 mod several;
 mod space;
+mod stepping;
 
 use files::input::Found;
 use files::input::words_of;
@@ -21,6 +22,7 @@ fn give(words: &[u64], lines: &[u64], asked: Asked) {
         asked::CHECK => answer::check(words, lines, asked.wave, asked.rules),
         asked::WORDS => answer::words(words, asked),
         asked::BLOCK => answer::words(words, asked),
+        asked::STEP => stepping::step(words, lines, asked),
         _ => answer::run(words, lines, asked),
     }
 }

@@ -18,6 +18,7 @@ use Rattle.block.proofs.Unique.{one-answer-block}
 use Rattle.editions.specs.Moves.{linesJudged, labelled, labelsJudged, addressed}
 use Rattle.editions.specs.declared.Moved.{Moved}
 use Rattle.editions.proofs.Unique.{one-move}
+use Rattle.aps2_c.specs.Calls.{Told, CallMade}
 use Rattle.aps2_c.specs.Answer.{Ran, Checked, ListingRead, BlockWritten, TextMoved}
 
 pub one-answer-aps2-read : (reading : Reading) {r r′ : ℕ} {fields fields′ bit bit′ : List ℕ} → Read reading r fields bit → Read reading r′ fields′ bit′
@@ -78,3 +79,8 @@ one-answer-aps2-to-labels text before p q = one-text (linesJudged text) (labelle
 pub one-answer-aps2-to-addresses : (text before : List ℕ) {r r′ : ℕ} {after after′ told told′ : List ℕ}
     → TextMoved (labelsJudged text) (addressed text) before after told r → TextMoved (labelsJudged text) (addressed text) before after′ told′ r′ → (r ≡ r′) × (told ≡ told′) × (after ≡ after′)
 one-answer-aps2-to-addresses text before p q = one-text (labelsJudged text) (addressed text) before p q
+
+-- `aps2_step` and `aps2_go_on`, for every state in numbers, also one that no run could leave
+pub one-answer-aps2-call : (t : Told) (l before : List ℕ) {r r′ : ℕ} {after after′ numbers numbers′ bit bit′ : List ℕ}
+    → CallMade t l before after numbers bit r → CallMade t l before after′ numbers′ bit′ r′ → (r ≡ r′) × (bit ≡ bit′) × (numbers ≡ numbers′) × (after ≡ after′)
+one-answer-aps2-call t l before p q = (p .number ∙ sym (q .number), p .told ∙ sym (q .told), p .numbers ∙ sym (q .numbers), p .trace ∙ sym (q .trace))

@@ -1,15 +1,11 @@
--- What C gets of a run, in 55 numbers, of a check, and of texts that are read or moved. 0 end, 1 address, 2 steps, 3 messages used, 4 trace length, 5 to 10 wait counts,
--- 11 to 16 totals, 17 repeat counter, 18 register, 19 condition (0 none, 1 false, 2 true), 20 held, 21 depth, 22 to 37 stack addresses, 38 to 53 stack counters, 54 bit.
+-- What C gets of a run, in 55 numbers, of a check, and of texts that are read or moved.
+-- The numbers of a run's state stand one place further than where it is held: 1 address, .., 53 the last stack counter.
 use mathlib.Core.Path.{_≡_}
-use mathlib.Core.List.{List, [], _∷_}
-use Prim.Native.Nat.{ℕ, zero, suc}
-use lib.ListN.{getD}
+use mathlib.Core.List.{List, [], _∷_, _++_}
+use Prim.Native.Nat.{ℕ}
 use Rattle.instruction.specs.declared.Rules.{Rules}
-use Rattle.sequence.specs.Bounds.{stackDepth}
-use Rattle.dispatch.specs.Engines.{engineCount}
 use Rattle.jumps.specs.State.{Did}
-use Rattle.jumps.specs.declared.Condition.{Condition}
-use Rattle.jumps.specs.declared.Condition.the-variants.{Absent, Fails, Holds}
+use Rattle.state_c.specs.Numbers.{numbersOf}
 use Rattle.rehearsal.specs.Run.{Rehearsed}
 use Rattle.rehearsal.specs.declared.Answer.{Answer}
 use Rattle.verdict.specs.Check.{CheckIs}
@@ -19,26 +15,9 @@ use Rattle.block.specs.Text.{Translates}
 use Rattle.editions.specs.Moves.{Moves}
 use Rattle.editions.specs.declared.Moved.{Moved}
 
-abbrev pub conditionOf : Condition → ℕ
-conditionOf Absent = 0
-conditionOf Fails = 1
-conditionOf Holds = 2
-
--- n elements of a list, from place k on, and then more
-abbrev pub itemsThen : ℕ → ℕ → List ℕ → List ℕ → List ℕ
-itemsThen k zero l more = more
-itemsThen k (suc n) l more = getD l k 0 ∷ itemsThen (suc k) n l more
-
-abbrev pub flatWith : ℕ → Answer → List ℕ
-flatWith condition a =
-    let c = a .state .core in
-    a .end .number ∷ c .address .0 ∷ c .steps ∷ c .used ∷ c .sent
-    ∷ itemsThen 0 engineCount (a .state .waits) (itemsThen 0 engineCount (a .state .totals)
-    (c .counter ∷ c .register ∷ condition ∷ c .held ∷ c .depth
-    ∷ itemsThen 0 stackDepth (a .state .returns) (itemsThen 0 stackDepth (a .state .counters) (a .end .bit ∷ []))))
-
+-- "0 end .. 54 bit", and between them the numbers of the state
 abbrev pub flatOf : Answer → List ℕ
-flatOf a = flatWith (conditionOf (a .state .core .condition)) a
+flatOf a = (a .end .number ∷ []) ++ (numbersOf (a .state) ++ (a .end .bit ∷ []))
 
 abbrev pub answerFrom : Did → Answer
 answerFrom d = record { end = d .end; state = d .state }

@@ -1,3 +1,4 @@
 pub mod Firmware
 pub mod Fields
 pub mod Answer
+pub mod Calls

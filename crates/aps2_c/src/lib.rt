@@ -4,31 +4,39 @@ ghost use mathlib.Core.Path.{_≡_};
 ghost use mathlib.Core.Bool.{false};
 ghost use lib.ListN.{length};
 ghost use Rattle.reader.specs.Reading.{readingOf};
-ghost use Rattle.buffer.specs.Put.{Fits, Put};
-ghost use Rattle.jumps.specs.State.{fixedIn};
+ghost use Rattle.jumps.specs.State.{Fixed, fixedIn};
 ghost use Rattle.rehearsal.specs.Run.{rehearse};
+ghost use Rattle.paused.specs.declared.Pace.{Pace};
 ghost use Rattle.listing.specs.Listing.{listingOf, Listed};
 ghost use Rattle.aps2_c.specs.Firmware.{rulesOf};
 ghost use Rattle.editions.specs.Moves.{linesJudged, labelled, labelsJudged, addressed};
-ghost use Rattle.aps2_c.specs.Answer.{conditionOf, flatWith, Ran, Checked, ListingRead, BlockWritten, TextMoved};
+ghost use Rattle.aps2_c.specs.Answer.{flatOf, Ran, Checked, ListingRead, BlockWritten, TextMoved};
+ghost use Rattle.aps2_c.specs.Calls.{conditionRefused, calledOn, CallMade};
 ghost use Rattle.aps2_c.specs.Fields.{numbersOf, fieldsOf, Read, isName, filledPast, valuesAsked, wishOf, Wrote};
 use block::block;
-use dispatch::Engines;
 use instruction::Body;
 use instruction::Instruction;
 use instruction::QuadSamples;
 use instruction::Refusal;
 use instruction::Rules;
-use jumps::Condition;
 use laid::fields::body_of;
 use laid::widths::header_fits;
 use listing::list;
 use listing_reader::read_listing;
+use paused::Asked;
+use paused::Paused;
+use paused::gone_on;
+use paused::stepped;
 use reader::Reading;
 use reader::read;
 use rehearsal::Answer;
+use rehearsal::input_refused;
 use rehearsal::run;
-use sequence::Sequence;
+use state_c::Numbers;
+use state_c::held_in;
+use state_c::held_numbers;
+use state_c::lay;
+use state_c::lay_state;
 use to_addresses::to_addresses;
 use to_labels::to_labels;
 use verdict::Verdict;
@@ -42,8 +50,8 @@ pub struct Lent;
 impl Lent {
     pub const FIELDS: usize = 8;
 
-    // Eleven numbers of the core and the end, two counts for each engine, and the two halves of each entry of the stack.
-    pub const ANSWER: usize = 11 + 2 * Engines::COUNT + 2 * (Sequence::STACK as usize);
+    // The end, the numbers of the state, and the bit.
+    pub const ANSWER: usize = 1 + Numbers::STATE + 1;
 }
 
 // The firmware that a number of C's means: 0 is current, anything else is older.
@@ -197,48 +205,15 @@ pub extern "C" fn aps2_write(
     written.number
 }
 
-fn condition_of(c: Condition) -> u64
-    ensures { λ r. ⌜ r ≡ conditionOf c ⌝ }
-{
-    match c {
-        Condition::Absent => 0,
-        Condition::Fails => 1,
-        Condition::Holds => 2,
-    }
-}
-
-// A part of the answer, from a place on; the place behind it.
-fn lay(out: &mut [u64], at: usize, part: &[u64]) -> usize
-    requires { ⌜ Fits (now part) (now out) at ⌝ }
-    ensures { λ r. ⌜ Put (now (part .entry)) (now (out .entry)) at (now (out .exit)) r ⌝ }
-{
-    let mut i: usize = 0;
-    while i < part.len() {
-        out[at + i] = part[i];
-        i += 1;
-    }
-    at + i
-}
-
-fn flat(condition: u64, a: Answer) -> [u64; Lent::ANSWER]
-    ensures { λ r. ⌜ r ≡ flatWith condition a ⌝ }
+fn flat(a: Answer) -> [u64; Lent::ANSWER]
+    ensures { λ r. ⌜ r ≡ flatOf a ⌝ }
 {
     let state = a.state;
-    let c = state.core;
-    let waits = state.waits;
-    let totals = state.totals;
-    let returns = state.returns;
-    let counters = state.counters;
-    let first = [a.end.number, c.address.0, c.steps, c.used, c.sent];
-    let middle = [c.counter, c.register, condition, c.held, c.depth];
+    let first = [a.end.number];
     let last = [a.end.bit];
     let mut out = [0u64; Lent::ANSWER];
     let mut at = lay(&mut out, 0, &first);
-    at = lay(&mut out, at, &waits);
-    at = lay(&mut out, at, &totals);
-    at = lay(&mut out, at, &middle);
-    at = lay(&mut out, at, &returns);
-    at = lay(&mut out, at, &counters);
+    at = lay_state(&mut out, at, state);
     lay(&mut out, at, &last);
     out
 }
@@ -281,11 +256,84 @@ pub extern "C" fn aps2_run(
         trace,
         budget,
     );
-    let state = a.state;
-    let core = state.core;
-    let condition = core.condition;
-    *answer = flat(condition_of(condition), a);
+    *answer = flat(a);
     a.end.number
+}
+
+fn asked_of(wave: u64, firmware: u64, triggers: u32, budget: u64) -> Asked
+    ensures { λ r. ⌜ r ≡ record { wave = record { 0 = wave }; rules = rulesOf firmware; triggers = triggers; budget = budget } ⌝ }
+{
+    Asked {
+        wave: QuadSamples(wave),
+        rules: rules_of(firmware),
+        triggers,
+        budget,
+    }
+}
+
+// Of a condition that is none: 1, 2, 3, 5, then 70.
+fn condition_refused(n: u64, wave: u64, budget: u64) -> u64
+    ensures { λ r. ⌜ ((e : Fixed) → length (e .words) ≡ n → e .setting .wave .0 ≡ wave → r ≡ conditionRefused budget e) ⌝ }
+{
+    let input = input_refused(n, QuadSamples(wave), budget);
+    if input != 0 {
+        return input;
+    }
+    Paused::NO_SUCH_STATE
+}
+
+#[no_mangle]
+pub extern "C" fn aps2_step(
+    words: &[u64],
+    wave: u64,
+    firmware: u64,
+    messages: &[u8],
+    triggers: u32,
+    trace: &mut [u64],
+    budget: u64,
+    state: &mut [u64; Numbers::HELD],
+    bit: &mut [u64; 1],
+) -> u64
+    ensures { λ r. ⌜ CallMade (calledOn Pace.Single budget (fixedIn (words .entry) (messages .entry) (trace .entry) (record { wave = record { 0 = wave }; rules = rulesOf firmware; triggers = triggers })) (now (state .entry)))
+        (now (state .entry)) (now (trace .entry)) (now (trace .exit)) (now (state .exit)) (now (bit .exit)) r ⌝ }
+{
+    if Numbers::CONDITIONS <= state[Numbers::CONDITION] {
+        *bit = [0];
+        return condition_refused(words.len() as u64, wave, budget);
+    }
+    let asked = asked_of(wave, firmware, triggers, budget);
+    let r = stepped(words, messages, trace, held_in(state), asked);
+    *bit = [r.end.bit];
+    let paused = r.paused;
+    *state = held_numbers(paused);
+    r.end.number
+}
+
+#[no_mangle]
+pub extern "C" fn aps2_go_on(
+    words: &[u64],
+    wave: u64,
+    firmware: u64,
+    messages: &[u8],
+    triggers: u32,
+    trace: &mut [u64],
+    budget: u64,
+    state: &mut [u64; Numbers::HELD],
+    bit: &mut [u64; 1],
+) -> u64
+    ensures { λ r. ⌜ CallMade (calledOn Pace.On budget (fixedIn (words .entry) (messages .entry) (trace .entry) (record { wave = record { 0 = wave }; rules = rulesOf firmware; triggers = triggers })) (now (state .entry)))
+        (now (state .entry)) (now (trace .entry)) (now (trace .exit)) (now (state .exit)) (now (bit .exit)) r ⌝ }
+{
+    if Numbers::CONDITIONS <= state[Numbers::CONDITION] {
+        *bit = [0];
+        return condition_refused(words.len() as u64, wave, budget);
+    }
+    let asked = asked_of(wave, firmware, triggers, budget);
+    let r = gone_on(words, messages, trace, held_in(state), asked);
+    *bit = [r.end.bit];
+    let paused = r.paused;
+    *state = held_numbers(paused);
+    r.end.number
 }
 
 #[no_mangle]

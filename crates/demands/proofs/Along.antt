@@ -25,7 +25,7 @@ use Rattle.demands.proofs.Steps.{Stacked, stays, pushes, pops, Outcome,
 -- P speaks of what was dispatched so far and of the state then
 module _ (e : Fixed) (P : List ℕ → State → Type 0)
     (keeps : (out : List ℕ) (s : State) → Good e s → P out s → P (out ++ stepOf e s .out) (stepOf e s .state)) where
-  along-run : (n : ℕ) (out : List ℕ) (s : State) → Good e s → P out s → P (out ++ runOf n e s .out) (runOf n e s .state)
+  pub along-run : (n : ℕ) (out : List ℕ) (s : State) → Good e s → P out s → P (out ++ runOf n e s .out) (runOf n e s .state)
   unfolding runOf
   along-run zero out s g p = subst (λ (l : List ℕ). P l s) (sym (append-nil out)) p
   along-run (suc n) out s g p = by (eqb (stepOf e s .end .number) 0) (along-run n (out ++ stepOf e s .out) (stepOf e s .state) (kept e s g .good) q)
@@ -50,11 +50,11 @@ module _ (e : Fixed) (P : List ℕ → State → Type 0)
 
 -- ---- the trace length
 
+pub sent-step : (e : Fixed) (out : List ℕ) (s : State) → Good e s → s .core .sent ≡ length out → stepOf e s .state .core .sent ≡ length (out ++ stepOf e s .out)
+sent-step e out s g p = kept e s g .sent ∙ ap (λ (k : ℕ). k + length (stepOf e s .out)) p ∙ sym (length-append out (stepOf e s .out))
+
 pub sent-is-length : SentIsLength
-sent-is-length e =
-    all-along e (λ out s. s .core .sent ≡ length out)
-    (λ out s g p. kept e s g .sent ∙ ap (λ (k : ℕ). k + length (stepOf e s .out)) p ∙ sym (length-append out (stepOf e s .out)))
-    refl
+sent-is-length e = all-along e (λ out s. s .core .sent ≡ length out) (sent-step e) refl
 
 -- ---- the stack
 
@@ -76,7 +76,7 @@ popped d l s = record { size = length-set l (d - 1) 0 ∙ s .size; unused = λ i
     by i h (yes e) = ap (λ (j : ℕ). getD (set l (d - 1) 0) j 0) e ∙ zero-set l (d - 1)
     by i h (no n) = getD-set-other l (d - 1) i 0 0 n ∙ s .unused i (omega arith)
 
-abbrev StacksIn : State → Type 0
+abbrev pub StacksIn : State → Type 0
 StacksIn s = Stack (s .core .depth) (s .returns) × Stack (s .core .depth) (s .counters)
 
 stacks-flow : (s : State) {d : ℕ} {rs cs : List ℕ} → Stacked s d rs cs → StacksIn s → Stack d rs × Stack d cs
@@ -84,13 +84,13 @@ stacks-flow s stays p = p
 stacks-flow s (pushes a k) p = (pushed (s .core .depth) (s .returns) a (p .0), pushed (s .core .depth) (s .counters) k (p .1))
 stacks-flow s pops p = (popped (s .core .depth) (s .returns) (p .0), popped (s .core .depth) (s .counters) (p .1))
 
-stacks-step : (e : Fixed) (s : State) (d : Did) → Outcome e s d → StacksIn s → StacksIn (d .state)
+pub stacks-step : (e : Fixed) (s : State) (d : Did) → Outcome e s d → StacksIn s → StacksIn (d .state)
 stacks-step e s d (stops r h _) p = p
 stacks-step e s d (flows c rs cs f) p = stacks-flow s (f .stack) p
-stacks-step e s d (holds g) p = p
+stacks-step e s d (holds g _) p = p
 stacks-step e s d (sends g) p = p
 
-fresh-stack : Stack 0 (replicate stackDepth 0)
+pub fresh-stack : Stack 0 (replicate stackDepth 0)
 fresh-stack = record { size = refl; unused = λ i h. zero-at stackDepth i }
 
 pub unused-are-zero : UnusedAreZero

@@ -16,7 +16,7 @@ use Rattle.instruction.specs.Table.{codeOf}
 use Rattle.instruction.specs.Word.{spelledBy}
 use Rattle.instruction.specs.declared.Instruction.{Instruction}
 use Rattle.instruction.specs.declared.Body.the-variants.{Wait}
-use Rattle.dispatch.specs.Engines.{engineOf, waitsFor, playsFor, addTo, plusOne, waitsAfter, totalsAfter, waitsOver, totalsOver}
+use Rattle.dispatch.specs.Engines.{engineCount, engineOf, waitsFor, playsFor, addTo, plusOne, waitsAfter, totalsAfter, waitsOver, totalsOver}
 use Rattle.dispatch.proofs.Counts.{picks}
 use Rattle.jumps.specs.State.{Fixed, Did, fresh, stop}
 use Rattle.jumps.specs.declared.State.{State}
@@ -29,10 +29,10 @@ use Rattle.demands.proofs.Steps.{Outcome, stops, flows, holds, sends, o
 
 -- ---- the steps counted are the steps taken
 
-moved-steps : (e : Fixed) (s : State) (d : Did) → Outcome e s d → d .end .number ≡ 0 → d .state .core .steps ≡ s .core .steps + 1
+pub moved-steps : (e : Fixed) (s : State) (d : Did) → Outcome e s d → d .end .number ≡ 0 → d .state .core .steps ≡ s .core .steps + 1
 moved-steps e s d (stops r h _) z = absurd (h z)
 moved-steps e s d (flows c rs cs f) z = f .steps
-moved-steps e s d (holds g) z = refl
+moved-steps e s d (holds g _) z = refl
 moved-steps e s d (sends g) z = refl
 
 pub steps-are-taken : StepsAreTaken
@@ -62,14 +62,14 @@ totals-append l [] ys = refl
 totals-append l (x ∷ xs) ys = totals-append (totalsAfter l (spelledBy x)) xs ys
 
 -- what a step and a run leave in the counts is what their dispatched words add
-record Over (s : State) (d : Did) : Type 0 where
-  waits : d .state .waits ≡ waitsOver (s .waits) (d .out)
-  totals : d .state .totals ≡ totalsOver (s .totals) (d .out)
+pub record Over (s : State) (d : Did) : Type 0 where
+  pub waits : d .state .waits ≡ waitsOver (s .waits) (d .out)
+  pub totals : d .state .totals ≡ totalsOver (s .totals) (d .out)
 
 over-step : (e : Fixed) (s : State) (d : Did) → Outcome e s d → Over s d
 over-step e s d (stops r h _) = record { waits = refl; totals = refl }
 over-step e s d (flows c rs cs f) = record { waits = refl; totals = refl }
-over-step e s d (holds g) = record { waits = refl; totals = refl }
+over-step e s d (holds g _) = record { waits = refl; totals = refl }
 over-step e s d (sends g) = record { waits = refl; totals = refl }
 
 over-then : (s : State) (d r : Did) (b : Bool) → Over s d → Over (d .state) r → Over s (pick b (onto (d .out) r) d)
@@ -79,7 +79,7 @@ over-then s d r true p q = record {
 }
 over-then s d r false p q = p
 
-over-run : (n : ℕ) (e : Fixed) (s : State) → Over s (runOf n e s)
+pub over-run : (n : ℕ) (e : Fixed) (s : State) → Over s (runOf n e s)
 unfolding runOf
 over-run zero e s = record { waits = refl; totals = refl }
 over-run (suc n) e s =
@@ -137,19 +137,26 @@ totals-sum (w ∷ trace) l k h =
     ∙ ap (λ (n : ℕ). n + sumOver (playedOn k) trace) (added-at l (engineOf i) k (playsFor (i .body)) h)
     ∙ add-assoc (getD l k 0) (playedOn k i) (sumOver (playedOn k) trace)
 
+-- from the fresh state, where all are 0
+pub fresh-totals : (d : Did) → Over fresh d → (k : ℕ) → k < engineCount → getD (d .state .totals) k 0 ≡ sumOver (playedOn k) (d .out)
+fresh-totals d o k h =
+    ap (λ (l : List ℕ). getD l k 0) (o .totals)
+    ∙ totals-sum (d .out) (fresh .totals) k h
+    ∙ ap (λ (n : ℕ). n + sumOver (playedOn k) (d .out)) (zero-at 6 k)
+    ∙ zero-add (sumOver (playedOn k) (d .out))
+
+pub fresh-waits : (d : Did) → Over fresh d → (k : ℕ) → k < engineCount → getD (d .state .waits) k 0 ≡ sumOver (awaitedOn k) (d .out)
+fresh-waits d o k h =
+    ap (λ (l : List ℕ). getD l k 0) (o .waits)
+    ∙ waits-sum (d .out) (fresh .waits) k h
+    ∙ ap (λ (n : ℕ). n + sumOver (awaitedOn k) (d .out)) (zero-at 6 k)
+    ∙ zero-add (sumOver (awaitedOn k) (d .out))
+
 pub totals-are-sums : TotalsAreSums
-totals-are-sums e b k h =
-    ap (λ (l : List ℕ). getD l k 0) (over-all b e .totals)
-    ∙ totals-sum (rehearse b e .out) (fresh .totals) k h
-    ∙ ap (λ (n : ℕ). n + sumOver (playedOn k) (rehearse b e .out)) (zero-at 6 k)
-    ∙ zero-add (sumOver (playedOn k) (rehearse b e .out))
+totals-are-sums e b = fresh-totals (rehearse b e) (over-all b e)
 
 pub waits-are-counts : WaitsAreCounts
-waits-are-counts e b k h =
-    ap (λ (l : List ℕ). getD l k 0) (over-all b e .waits)
-    ∙ waits-sum (rehearse b e .out) (fresh .waits) k h
-    ∙ ap (λ (n : ℕ). n + sumOver (awaitedOn k) (rehearse b e .out)) (zero-at 6 k)
-    ∙ zero-add (sumOver (awaitedOn k) (rehearse b e .out))
+waits-are-counts e b = fresh-waits (rehearse b e) (over-all b e)
 
 -- ---- step by step
 

@@ -3,9 +3,9 @@
 use mathlib.Core.Path.{_≡_, refl, sym, ap, subst, _∙_}
 use mathlib.Core.Bool.{Bool, true, false, true≢false}
 use mathlib.Core.List.{List, []}
-use Prim.Native.Nat.{ℕ, _+_, _-_, _<_}
+use Prim.Native.Nat.{ℕ, _+_, _-_, _≤_, _<_}
 use native.Mathlib.Omega.{arith}
-use borrow.Author.Tests.{eqb-false, ltb-true, ltb-false}
+use borrow.Author.Tests.{eqb-true, eqb-false, ltb-true, ltb-false}
 use lib.Dec.{ltb, eqb, leb}
 use lib.ListN.{length, getD, set}
 use Rattle.instruction.specs.Bits.{pick}
@@ -20,7 +20,7 @@ use Rattle.reader.specs.Reading.{formIn, refusedWith, judged, readingOf, refusa
 use Rattle.reader.specs.declared.Reading.{Reading}
 use Rattle.reader.specs.declared.Reading.the-variants.{Accepted, Refused}
 use Rattle.reader.proofs.Laws.{reads-instruction}
-use Rattle.sequence.specs.Placing.{onEngine, outOfWave, outOfWords, placingOf}
+use Rattle.sequence.specs.Placing.{onEngine, isEngine, outOfWave, outOfWords, placingOf}
 use Rattle.dispatch.proofs.Counts.{picks}
 use Rattle.instruction.specs.Form.{numbered}
 use Rattle.jumps.specs.State.{Fixed, Did, stateOf, withCore, refusedBy, stop, moves}
@@ -82,10 +82,11 @@ pub data Stacked (s : State) : ℕ → List ℕ → List ℕ → Type 0 where
   pushes : (a k : ℕ) → Stacked s (s .core .depth + 1) (set (s .returns) (s .core .depth) a) (set (s .counters) (s .core .depth) k)
   pops : Stacked s (s .core .depth - 1) (set (s .returns) (s .core .depth - 1) 0) (set (s .counters) (s .core .depth - 1) 0)
 
--- after a step of flow: it is counted, and nothing is held
-pub record Flows (s : State) (c : Core) (rs cs : List ℕ) : Type 0 where
+-- after a step of flow: it is counted, nothing is held, and no message is used that was not given
+pub record Flows (e : Fixed) (s : State) (c : Core) (rs cs : List ℕ) : Type 0 where
   pub steps : c .steps ≡ s .core .steps + 1
   pub held : c .held ≡ 0
+  pub used : s .core .used ≤ length (e .messages) → c .used ≤ length (e .messages)
   pub stack : Stacked s (c .depth) rs cs
 
 -- the word at the address goes out, now or with the group that it is held for
@@ -93,10 +94,22 @@ pub record Goes (e : Fixed) (s : State) : Type 0 where
   pub inside : s .core .address .0 < length (e .words)
   pub reads : Reads (e .setting .rules) (getD (e .words) (s .core .address .0) 0)
 
+-- a word that can be held, with W quad-samples and n words: a low engine word that passes form and 20
+pub record Low (rules : Rules) (wave n word : ℕ) : Type 0 where
+  pub instruction : Instruction
+  pub form : readingOf rules word ≡ Accepted instruction
+  pub engine : isEngine (instruction .body) ≡ true
+  pub write : instruction .write ≡ 0
+  pub placed : placingOf wave n (instruction .body) ≡ 0
+
+-- the word at the address is one
+abbrev pub LowAt : Fixed → State → Type 0
+LowAt e s = Low (e .setting .rules) (e .setting .wave .0) (length (e .words)) (getD (e .words) (s .core .address .0) 0)
+
 pub data Outcome (e : Fixed) (s : State) : Did → Type 0 where
   stops : (r : Refusal) → (r .number ≡ 0 → ⊥) → SaysBit (getD (e .words) (s .core .address .0) 0) r → Outcome e s (refusedBy r s)
-  flows : (c : Core) (rs cs : List ℕ) → Flows s c rs cs → Outcome e s (moves (stateOf c rs cs (s .waits) (s .totals)))
-  holds : Goes e s → Outcome e s (moves (withCore (holdOf (s .core)) s))
+  flows : (c : Core) (rs cs : List ℕ) → Flows e s c rs cs → Outcome e s (moves (stateOf c rs cs (s .waits) (s .totals)))
+  holds : Goes e s → LowAt e s → Outcome e s (moves (withCore (holdOf (s .core)) s))
   sends : Goes e s → Outcome e s (record { end = numbered 0; state = sent e s; out = groupOf e (s .core) })
 
 module _ (e : Fixed) (s : State) where
@@ -105,36 +118,38 @@ module _ (e : Fixed) (s : State) where
 
   -- flow, where nothing is held
   module _ (free : s .core .held ≡ 0) where
-    moves-on : (c : Core) (rs cs : List ℕ) → c .steps ≡ s .core .steps + 1 → c .held ≡ s .core .held → Stacked s (c .depth) rs cs → Outcome e s (moves (stateOf c rs cs (s .waits) (s .totals)))
-    moves-on c rs cs k h t = flows c rs cs (record { steps = k; held = h ∙ free; stack = t })
+    moves-on : (c : Core) (rs cs : List ℕ) → c .steps ≡ s .core .steps + 1 → c .held ≡ s .core .held → (s .core .used ≤ length (e .messages) → c .used ≤ length (e .messages)) → Stacked s (c .depth) rs cs → Outcome e s (moves (stateOf c rs cs (s .waits) (s .totals)))
+    moves-on c rs cs k h u t = flows c rs cs (record { steps = k; held = h ∙ free; used = u; stack = t })
 
     call-outcome : (a : ℕ) → Outcome e s (callOf s a)
     unfolding callOf
     call-outcome a =
         picks (Outcome e s) (acts (s .core .condition))
-        (λ _. picks (Outcome e s) (ltb (s .core .depth) 16) (λ _. moves-on _ _ _ refl refl (pushes _ _)) (λ _. stop-at 31 (λ z. omega (arith, z)) refl))
-        (λ _. moves-on _ _ _ refl refl stays)
+        (λ _. picks (Outcome e s) (ltb (s .core .depth) 16) (λ _. moves-on _ _ _ refl refl (λ u. u) (pushes _ _)) (λ _. stop-at 31 (λ z. omega (arith, z)) refl))
+        (λ _. moves-on _ _ _ refl refl (λ u. u) stays)
 
     return-outcome : Outcome e s (returnOf s)
     unfolding returnOf
     return-outcome =
         picks (Outcome e s) (acts (s .core .condition))
-        (λ _. picks (Outcome e s) (ltb 0 (s .core .depth)) (λ _. moves-on _ _ _ refl refl pops) (λ _. stop-at 32 (λ z. omega (arith, z)) refl))
-        (λ _. moves-on _ _ _ refl refl stays)
+        (λ _. picks (Outcome e s) (ltb 0 (s .core .depth)) (λ _. moves-on _ _ _ refl refl (λ u. u) pops) (λ _. stop-at 32 (λ z. omega (arith, z)) refl))
+        (λ _. moves-on _ _ _ refl refl (λ u. u) stays)
 
-    message-outcome : (m : List ℕ) → Outcome e s (messageOf m s)
+    message-outcome : Outcome e s (messageOf (e .messages) s)
     unfolding messageOf
-    message-outcome m = picks (Outcome e s) (ltb (s .core .used) (length m)) (λ _. moves-on _ _ _ refl refl stays) (λ _. stop-at 42 (λ z. omega (arith, z)) refl)
+    message-outcome =
+        picks (Outcome e s) (ltb (s .core .used) (length (e .messages)))
+        (λ t. moves-on _ _ _ refl refl (λ _. omega (arith, ltb-true (s .core .used) (length (e .messages)) t)) stays) (λ _. stop-at 42 (λ z. omega (arith, z)) refl)
 
     repeat-outcome : (a : ℕ) → Outcome e s (moves (withCore (repeatOf (s .core) a) s))
     repeat-outcome a =
         picks (λ (c : Core). Outcome e s (moves (withCore c s))) (eqb (s .core .counter) 0)
-        (λ _. moves-on _ _ _ refl refl stays) (λ _. moves-on _ _ _ refl refl stays)
+        (λ _. moves-on _ _ _ refl refl (λ u. u) stays) (λ _. moves-on _ _ _ refl refl (λ u. u) stays)
 
     goto-outcome : (a : ℕ) → Outcome e s (moves (withCore (gotoOf (s .core) a) s))
     goto-outcome a =
         picks (λ (c : Core). Outcome e s (moves (withCore c s))) (acts (s .core .condition))
-        (λ _. moves-on _ _ _ refl refl stays) (λ _. moves-on _ _ _ refl refl stays)
+        (λ _. moves-on _ _ _ refl refl (λ u. u) stays) (λ _. moves-on _ _ _ refl refl (λ u. u) stays)
 
   module _ (g : Goes e s) where
     send-outcome : Outcome e s (sendOf e s)
@@ -145,30 +160,30 @@ module _ (e : Fixed) (s : State) where
     unfolding syncOf
     sync-outcome = picks (Outcome e s) (anyAbove (e .setting .triggers) (s .waits)) (λ _. stop-at 41 (λ z. omega (arith, z)) refl) (λ _. send-outcome)
 
-    engine-outcome : (w : ℕ) → Outcome e s (engineWordOf e s w)
+    engine-outcome : (w : ℕ) → (w ≡ 0 → LowAt e s) → Outcome e s (engineWordOf e s w)
     unfolding engineWordOf
-    engine-outcome w = picks (Outcome e s) (eqb w 0) (λ _. holds g) (λ _. send-outcome)
+    engine-outcome w l = picks (Outcome e s) (eqb w 0) (λ t. holds g (l (eqb-true w 0 t))) (λ _. send-outcome)
 
   -- what 22 lets through: no word but an engine word while a group is held
   nothing : ltb 0 (s .core .held) ≡ false → s .core .held ≡ 0
   nothing t = omega (arith, ltb-false 0 (s .core .held) t)
 
-  act-outcome : (w : ℕ) (b : Body) → (isDispatched b ≡ true → Goes e s) → breaksGroup (s .core .held) w b ≡ false → Outcome e s (actOf e s w b)
+  act-outcome : (w : ℕ) (b : Body) → (isDispatched b ≡ true → Goes e s) → (isEngine b ≡ true → w ≡ 0 → LowAt e s) → breaksGroup (s .core .held) w b ≡ false → Outcome e s (actOf e s w b)
   unfolding actOf
-  act-outcome w (Waveform f) g t = engine-outcome (g refl) w
-  act-outcome w (Marker f) g t = engine-outcome (g refl) w
-  act-outcome w Wait g t = send-outcome (g refl)
-  act-outcome w (LoadRepeat n) g t = moves-on (nothing t) _ _ _ refl refl stays
-  act-outcome w (Repeat a) g t = repeat-outcome (nothing t) (a .0)
-  act-outcome w (Cmp x) g t = moves-on (nothing t) _ _ _ refl refl stays
-  act-outcome w (Goto a) g t = goto-outcome (nothing t) (a .0)
-  act-outcome w (Call a) g t = call-outcome (nothing t) (a .0)
-  act-outcome w (Return p) g t = return-outcome (nothing t)
-  act-outcome w Sync g t = sync-outcome (g refl)
-  act-outcome w (Modulator f) g t = engine-outcome (g refl) w
-  act-outcome w (LoadCmp p) g t = message-outcome (nothing t) (e .messages)
-  act-outcome w (Prefetch a) g t = moves-on (nothing t) _ _ _ refl refl stays
-  act-outcome w Noop g t = moves-on (nothing t) _ _ _ refl refl stays
+  act-outcome w (Waveform f) g l t = engine-outcome (g refl) w (l refl)
+  act-outcome w (Marker f) g l t = engine-outcome (g refl) w (l refl)
+  act-outcome w Wait g l t = send-outcome (g refl)
+  act-outcome w (LoadRepeat n) g l t = moves-on (nothing t) _ _ _ refl refl (λ u. u) stays
+  act-outcome w (Repeat a) g l t = repeat-outcome (nothing t) (a .0)
+  act-outcome w (Cmp x) g l t = moves-on (nothing t) _ _ _ refl refl (λ u. u) stays
+  act-outcome w (Goto a) g l t = goto-outcome (nothing t) (a .0)
+  act-outcome w (Call a) g l t = call-outcome (nothing t) (a .0)
+  act-outcome w (Return p) g l t = return-outcome (nothing t)
+  act-outcome w Sync g l t = sync-outcome (g refl)
+  act-outcome w (Modulator f) g l t = engine-outcome (g refl) w (l refl)
+  act-outcome w (LoadCmp p) g l t = message-outcome (nothing t)
+  act-outcome w (Prefetch a) g l t = moves-on (nothing t) _ _ _ refl refl (λ u. u) stays
+  act-outcome w Noop g l t = moves-on (nothing t) _ _ _ refl refl (λ u. u) stays
 
   module _ (inside : s .core .address .0 < length (e .words)) where
     execute-outcome : (i : Instruction) → readingOf (e .setting .rules) (getD (e .words) (s .core .address .0) 0) ≡ Accepted i → Outcome e s (executeOf e s i)
@@ -176,8 +191,10 @@ module _ (e : Fixed) (s : State) where
     execute-outcome i r =
         let n : ℕ = placingOf (e .setting .wave .0) (length (e .words)) (i .body) in
         picks (Outcome e s) (eqb n 0)
-        (λ _. picks (Outcome e s) (breaksGroup (s .core .held) (i .write) (i .body)) (λ _. stop-at 22 (λ z. omega (arith, z)) refl)
-        (λ t. act-outcome (i .write) (i .body) (λ q. record { inside = inside; reads = reads-of (e .setting .rules) (getD (e .words) (s .core .address .0) 0) i r q }) t))
+        (λ p. picks (Outcome e s) (breaksGroup (s .core .held) (i .write) (i .body)) (λ _. stop-at 22 (λ z. omega (arith, z)) refl)
+        (λ t. act-outcome (i .write) (i .body)
+        (λ q. record { inside = inside; reads = reads-of (e .setting .rules) (getD (e .words) (s .core .address .0) 0) i r q })
+        (λ q z. record { instruction = i; form = r; engine = q; write = z; placed = eqb-true n 0 p }) t))
         (λ t. stop-at n (eqb-false n 0 t) (placing-quiet (e .setting .wave .0) (length (e .words)) (i .body)))
 
     reading-outcome : (q : Reading) → readingOf (e .setting .rules) (getD (e .words) (s .core .address .0) 0) ≡ q → Outcome e s (withReading e s q)
@@ -199,7 +216,7 @@ module _ (e : Fixed) (s : State) where
 stops-still-of : (e : Fixed) (s : State) (d : Did) → Outcome e s d → (d .end .number ≡ 0 → ⊥) → (d .state ≡ s) × (d .out ≡ [])
 stops-still-of e s d (stops r h _) z = (refl, refl)
 stops-still-of e s d (flows c rs cs f) z = absurd (z refl)
-stops-still-of e s d (holds g) z = absurd (z refl)
+stops-still-of e s d (holds g _) z = absurd (z refl)
 stops-still-of e s d (sends g) z = absurd (z refl)
 
 pub stops-still : StopsStill

@@ -77,7 +77,7 @@ wordAt e s = getD (e .words) (s .core .address .0) 0
 step-says : (e : Fixed) (s : State) (d : Did) → Outcome e s d → SaysBit (wordAt e s) (d .end)
 step-says e s d (stops r h x) = x
 step-says e s d (flows c rs cs f) = says-none _ 0 refl
-step-says e s d (holds g) = says-none _ 0 refl
+step-says e s d (holds g _) = says-none _ 0 refl
 step-says e s d (sends g) = says-none _ 0 refl
 
 run-says : (e : Fixed) (budget : ℕ) (s : State) → SaysBit (wordAt e (runOf budget e s .state)) (runOf budget e s .end)

@@ -5,7 +5,7 @@ ghost use mathlib.Core.List.{List};
 ghost use Prim.Native.Nat.{ℕ, _<_};
 ghost use Rattle.instruction.specs.Bits.{pick};
 ghost use Rattle.sequence.specs.Bounds.{budgetLimit};
-ghost use Rattle.jumps.specs.State.{stateOf, freshCore, withMessage, withSent, withCounter, withCondition, stopped};
+ghost use Rattle.jumps.specs.State.{stateOf, freshCore, fresh, withMessage, withSent, withCounter, withCondition, stopped};
 ghost use Rattle.jumps.specs.Lent.{Done};
 ghost use Rattle.jumps.specs.Jumps.{goes, nexts, repeatOf, compares, compareOf, acts, gotoOf, callOf, returnOf, messageOf, holdOf};
 ghost use Rattle.jumps.specs.Asked.{Counts, CanHold, CanReturn};
@@ -223,6 +223,21 @@ impl Core {
     {
         self.counter = counter;
         self.nexts()
+    }
+}
+
+impl State {
+    pub fn fresh() -> State
+        ensures { λ r. ⌜ r ≡ fresh ⌝ }
+    {
+        let core = Core::fresh();
+        State {
+            core,
+            returns: [0; Sequence::STACK as usize],
+            counters: [0; Sequence::STACK as usize],
+            waits: [0; Engines::COUNT],
+            totals: [0; Engines::COUNT],
+        }
     }
 }
 

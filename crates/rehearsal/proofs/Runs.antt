@@ -35,7 +35,7 @@ unfolding runOf
 run-step zero e s h = absurd (omega arith)
 run-step (suc n) e s h = rw sub-one
 
-run-moved : (n : ℕ) (e : Fixed) (s : State) → 0 < n → stepOf e s .end .number ≡ 0 → runOf n e s ≡ onto (stepOf e s .out) (runOf (n - 1) e (stepOf e s .state))
+pub run-moved : (n : ℕ) (e : Fixed) (s : State) → 0 < n → stepOf e s .end .number ≡ 0 → runOf n e s ≡ onto (stepOf e s .out) (runOf (n - 1) e (stepOf e s .state))
 run-moved n e s h z =
     run-step n e s h
     ∙ ap (λ (y : Bool). pick y (onto (stepOf e s .out) (runOf (n - 1) e (stepOf e s .state))) (stepOf e s)) (eq-eqb (stepOf e s .end .number) 0 z)

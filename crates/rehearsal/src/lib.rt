@@ -29,23 +29,15 @@ impl Answer {
     fn refused(number: u64) -> Answer
         ensures { λ r. ⌜ r ≡ record { end = numbered number; state = fresh } ⌝ }
     {
-        let core = Core::fresh();
-        let state = State {
-            core,
-            returns: [0; Sequence::STACK as usize],
-            counters: [0; Sequence::STACK as usize],
-            waits: [0; Engines::COUNT],
-            totals: [0; Engines::COUNT],
-        };
         Answer {
             end: Refusal { number, bit: 0 },
-            state,
+            state: State::fresh(),
         }
     }
 }
 
 // 1, 2, 3, 5 or 0.
-fn input_refused(n: u64, wave: QuadSamples, budget: u64) -> u64
+pub fn input_refused(n: u64, wave: QuadSamples, budget: u64) -> u64
     ensures { λ r. ⌜ r ≡ inputRefused n (wave .0) budget ⌝ }
 {
     let lengths = Sequence::lengths_refused(n, wave);
@@ -59,7 +51,7 @@ fn input_refused(n: u64, wave: QuadSamples, budget: u64) -> u64
 }
 
 // At most so many steps from a state on.
-fn go_on(
+pub fn run_from(
     words: &[u64],
     messages: &[u8],
     trace: &mut [u64],
@@ -118,7 +110,7 @@ fn from_fresh(
     let mut waits = [0; Engines::COUNT];
     let mut totals = [0; Engines::COUNT];
     let core = Core::fresh();
-    let r = go_on(
+    let r = run_from(
         words,
         messages,
         trace,

@@ -9,7 +9,7 @@ use told::say;
 use told::say_number;
 use told::say_pair;
 
-fn say_condition(condition: Condition) {
+pub fn say_condition(condition: Condition) {
     match condition {
         Condition::Absent => say(b"condition\tnone\n"),
         Condition::Fails => say(b"condition\tfalse\n"),
@@ -30,17 +30,29 @@ fn say_core(core: Core) {
     say_pair(b"stack depth", core.depth);
 }
 
-// One count for each engine.
-fn say_engines(counts: [u64; Engines::COUNT]) {
-    say_pair(b"\twaveform", counts[0]);
-    say_pair(b"\tmarker 0", counts[1]);
-    say_pair(b"\tmarker 1", counts[2]);
-    say_pair(b"\tmarker 2", counts[3]);
-    say_pair(b"\tmarker 3", counts[4]);
-    say_pair(b"\tmodulator", counts[5]);
+pub fn say_engine(engine: usize) {
+    match engine {
+        0 => say(b"waveform"),
+        1 => say(b"marker 0"),
+        2 => say(b"marker 1"),
+        3 => say(b"marker 2"),
+        4 => say(b"marker 3"),
+        _ => say(b"modulator"),
+    }
 }
 
-fn say_entry(depth: u64, to: u64, counter: u64) {
+// One count for each engine.
+fn say_engines(counts: [u64; Engines::COUNT]) {
+    let mut i: usize = 0;
+    while i < Engines::COUNT {
+        say(b"\t");
+        say_engine(i);
+        say_pair(b"", counts[i]);
+        i += 1;
+    }
+}
+
+pub fn say_entry(depth: u64, to: u64, counter: u64) {
     say(b"\tentry ");
     say_number(depth);
     say(b"\treturns to ");

@@ -71,6 +71,16 @@ fn say_past(words: &[u64], lines: &[u64], rules: Rules) {
     }
 }
 
+// The word at an address, or that there is none.
+pub fn say_word_at(words: &[u64], place: WordAddress, rules: Rules) {
+    let at = place.0 as usize;
+    if words.len() <= at {
+        say(b"past the last word\n");
+        return;
+    }
+    say_word(place.0, words[at], rules);
+}
+
 // The bit, where the number tells one.
 pub fn say_bit(refusal: Refusal) {
     if refusal.tells_bit() {

@@ -23,6 +23,8 @@ pub const LABELS: u64 = 6;
 
 pub const ADDRESSES: u64 = 7;
 
+pub const STEP: u64 = 8;
+
 const HEX: u64 = 1;
 
 const WAVE: u64 = 2;
@@ -87,6 +89,9 @@ fn command_named(text: &[u8]) -> u64 {
     }
     if same(text, b"run") {
         return RUN;
+    }
+    if same(text, b"step") {
+        return STEP;
     }
     if same(text, b"words") {
         return WORDS;
@@ -166,8 +171,13 @@ fn is_alone(option: u64) -> bool {
     (option == HEX) | (option == JSON) | (option == LABELLED)
 }
 
+// The commands that take the steps of a run.
+fn steps(command: u64) -> bool {
+    (command == RUN) | (command == STEP)
+}
+
 fn needs_wave(command: u64) -> bool {
-    (command == CHECK) | (command == RUN) | (command == BLOCK)
+    (command == CHECK) | steps(command) | (command == BLOCK)
 }
 
 // The commands that make words of a text.
@@ -185,8 +195,8 @@ fn goes_out(command: u64) -> bool {
 }
 
 // Whether a command has an option. Words that are made and listings that are moved may go to a file, and every other command reads words in
-// two ways and has two ways to tell its answer. Words are read for a firmware but from a block, some commands need a waveform memory, the
-// list alone is told with labels, and the rest are of a run.
+// two ways and, but for a run that is stepped, has two ways to tell its answer. Words are read for a firmware but from a block, some commands
+// need a waveform memory, the list alone is told with labels, a run that is stepped writes no trace, and the rest are of a run.
 fn has_option(command: u64, option: u64) -> bool {
     match option {
         0 => false,
@@ -194,7 +204,10 @@ fn has_option(command: u64, option: u64) -> bool {
         WAVE => needs_wave(command),
         OUT => goes_out(command),
         LABELLED => command == LIST,
-        _ => !goes_out(command) & (is_alone(option) | (command == RUN)),
+        HEX => !goes_out(command),
+        JSON => !goes_out(command) & (command != STEP),
+        TRACE => command == RUN,
+        _ => steps(command),
     }
 }
 
@@ -391,6 +404,13 @@ impl Asked {
         self.bad()
     }
 
+    fn without_input(self) -> Asked {
+        complain(
+            b"aps2: a lesson is heard from standard input, so its words must come from a file\n",
+        );
+        self.bad()
+    }
+
     fn without_wave(self) -> Asked {
         complain(b"aps2: how long is the waveform memory? --wave and a number of quad-samples\n");
         self.bad()
@@ -415,11 +435,21 @@ impl Asked {
         if needs_wave(self.command) & !self.has_wave {
             return self.without_wave();
         }
+        if (self.command == STEP) & is_input(self.file) {
+            return self.without_input();
+        }
         if self.labelled & self.json {
             return self.without_either();
         }
         self
     }
+}
+
+// Whether an argument names standard input.
+fn is_input(argument: usize) -> bool {
+    let mut text = io::large_buffer();
+    let n = os::arg(argument, &mut text);
+    same(&text[..n], b"-")
 }
 
 fn most_of(option: u64) -> u32 {

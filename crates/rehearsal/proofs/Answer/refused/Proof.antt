@@ -1,9 +1,7 @@
 -- The fresh state, with the number.
 use mathlib.Core.Path.{ap}
 use Rattle.rehearsal.specs.declared.Answer.{Answer}
-use Rattle.jumps.specs.State.{stateOf}
-use Rattle.jumps.specs.declared.Core.{Core}
-use lib.ListN.{replicate}
+use Rattle.jumps.specs.declared.State.{State}
 use Rattle.instruction.specs.Form.{numbered}
 use borrow.Author.Needs.{needs}
 use Rattle.rehearsal.proofs.Answer.refused.Statement.{statement}
@@ -13,7 +11,7 @@ fresh-requires : tie.Need-fresh-requires
 fresh-requires c κs = search needs
 
 returns : tie.Need-returns
-returns c = ap {B = Answer} (λ (k : Core). record { end = numbered (c .before .args .number); state = stateOf k (replicate 16 0) (replicate 16 0) (replicate 6 0) (replicate 6 0) }) (c .fresh .ensures)
+returns c = ap {B = Answer} (λ (k : State). record { end = numbered (c .before .args .number); state = k }) (c .fresh .ensures)
 
 pub refused-spec : {M : Type 1} → statement M
 refused-spec = tie.close (tie.spec fresh-requires returns)

@@ -6,8 +6,8 @@ use borrow.Author.Needs.{needs}
 use lib.ListN.{length}
 use Rattle.jumps.specs.State.{fixedBy, stateOf}
 use Rattle.rehearsal.proofs.Runs.{Along, along-start, along-length, along-step, along-stop, along-spent, loop-ready, loop-traced}
-use Rattle.rehearsal.proofs.go_on.Statement.{statement}
-use Rattle.rehearsal.proofs.go_on.Tie as tie
+use Rattle.rehearsal.proofs.run_from.Statement.{statement}
+use Rattle.rehearsal.proofs.run_from.Tie as tie
 
 abbrev Inv-loop : tie.InvT-loop
 Inv-loop words messages trace₀ returns₀ counters₀ waits₀ totals₀ budget setting at₀ left₀ trace returns counters waits totals at left =
@@ -87,8 +87,8 @@ returns-2 c =
     let z : k .left ≡ 0 = omega arith in
     along-spent (fixedBy (now (a .words)) (now (a .messages)) (length u) (a .setting)) (a .budget) s₀ u refl (k .left) t (k .trace) (k .inv) z _ (c .stop .ensures)
 
-pub go-on-spec : {M : Type 1} → statement M
-go-on-spec =
+pub run-from-spec : {M : Type 1} → statement M
+run-from-spec =
     tie.close
     (tie.spec
     Inv-loop

@@ -7,8 +7,8 @@ use lib.ListN.{length, take, getD, set}
 use Rattle.buffer.specs.Put.{put}
 use Rattle.buffer.proofs.Laws.{put-none, so-far-length, so-far-next, so-far-all}
 use borrow.Author.Needs.{needs}
-use Rattle.aps2_c.proofs.lay.Statement.{statement}
-use Rattle.aps2_c.proofs.lay.Tie as tie
+use Rattle.state_c.proofs.lay.Statement.{statement}
+use Rattle.state_c.proofs.lay.Tie as tie
 
 abbrev Inv-loop : tie.InvT-loop
 Inv-loop out₀ at part i₀ out i = (i ≤ length part) × (out ≡ put out₀ at (take i part))

@@ -1,0 +1,4 @@
+pub mod Several
+pub mod Fits
+pub mod Calls
+pub mod Resumed

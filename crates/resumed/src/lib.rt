@@ -1,0 +1,1 @@
+// What is promised of a run in several calls. There is no code here.
