@@ -164,13 +164,14 @@ module _ (pace : Pace) (budget : ℕ) (e : Fixed) (p : Paused) where
       (record { answer = ap numbered h; held = refl; trace = sym (put-none t (p .state .core .sent)) })
 
   -- what was done, put together anew
-  pub went-so : callRefused budget e p ≡ 0 → (before after : List ℕ) (r : Stepped) (rs cs ws ts : List ℕ)
+  pub went-so : callRefused budget e p ≡ 0 → (before after : List ℕ) (r : Stepped) (rs cs ws ts : List ℕ) (p′ : Paused)
       → Traced (doneBy pace budget e (p .state)) (p .state .core .sent) before after r rs cs ws ts
-      → Called (called pace budget e p) p before (r .end) (record { state = stateOf (r .core) rs cs ws ts; budget = budget; triggers = e .setting .triggers }) after
-  went-so z before after r rs cs ws ts d =
+      → p′ ≡ record { state = stateOf (r .core) rs cs ws ts; budget = budget; triggers = e .setting .triggers }
+      → Called (called pace budget e p) p before (r .end) p′ after
+  went-so z before after r rs cs ws ts p′ d q =
       rw (called-taken z)
       (record {
         answer = d .done .end;
-        held = ap (λ (s : State). record { state = s; budget = budget; triggers = e .setting .triggers }) (d .done .state);
+        held = q ∙ ap (λ (s : State). record { state = s; budget = budget; triggers = e .setting .triggers }) (d .done .state);
         trace = d .trace;
       })

@@ -2,7 +2,7 @@
 // All is judged and done by value; two thin functions update the state behind its reference.
 ghost use mathlib.Core.Path.{_≡_};
 ghost use lib.ListN.{length};
-ghost use Rattle.jumps.specs.State.{fixedBy, fixedIn};
+ghost use Rattle.jumps.specs.State.{fixedBy, fixedIn, stateOf};
 ghost use Rattle.jumps.specs.Lent.{stateIn, Leaves};
 ghost use Rattle.paused.specs.Pause.{freshPaused, callRefused, doneBy, stepsOf, isSingle, endsOf, CanGoOn, settingOf, Does};
 use dispatch::Engines;
@@ -58,6 +58,31 @@ impl Paused {
             state: State::fresh(),
             budget: 0,
             triggers: 0,
+        }
+    }
+
+    // What was asked is last time's to the next call.
+    fn put_together(
+        core: Core,
+        returns: [u64; Sequence::STACK as usize],
+        counters: [u64; Sequence::STACK as usize],
+        waits: [u64; Engines::COUNT],
+        totals: [u64; Engines::COUNT],
+        asked: Asked,
+    ) -> Paused
+        ensures { λ r. ⌜ r ≡ record { state = stateOf core returns counters waits totals; budget = asked .budget; triggers = asked .triggers } ⌝ }
+    {
+        let state = State {
+            core,
+            returns,
+            counters,
+            waits,
+            totals,
+        };
+        Paused {
+            state,
+            budget: asked.budget,
+            triggers: asked.triggers as u64,
         }
     }
 }
@@ -163,8 +188,8 @@ fn goes_on(
     pace.ends(r)
 }
 
-// A call by value: refused with nothing changed, or the state taken apart, its arrays lent, and put together anew.
-fn advance(
+// A call that is not refused, by value: the state is taken apart, its arrays are lent, and it is put together anew.
+fn moves_on(
     words: &[u64],
     messages: &[u8],
     trace: &mut [u64],
@@ -172,15 +197,9 @@ fn advance(
     asked: Asked,
     pace: Pace,
 ) -> Moved
+    requires { ⌜ callRefused (asked .budget) (fixedIn words messages trace (settingOf asked)) p ≡ 0 ⌝ }
     ensures { λ r. ⌜ Does pace (words .entry) (messages .entry) (trace .entry) (trace .exit) p asked (r .end) (r .paused) ⌝ }
 {
-    let no = refused(words, messages, trace.len() as u64, p, asked);
-    if no != 0 {
-        return Moved {
-            end: Refusal { number: no, bit: 0 },
-            paused: p,
-        };
-    }
     let s = p.state;
     let core = s.core;
     let mut returns = s.returns;
@@ -202,19 +221,29 @@ fn advance(
     );
     let end = r.end;
     let last = r.core;
-    let state = State {
-        core: last,
-        returns,
-        counters,
-        waits,
-        totals,
-    };
-    let paused = Paused {
-        state,
-        budget: asked.budget,
-        triggers: asked.triggers as u64,
-    };
+    let paused = Paused::put_together(last, returns, counters, waits, totals, asked);
     Moved { end, paused }
+}
+
+// A call by value: refused with nothing changed, or done.
+fn advance(
+    words: &[u64],
+    messages: &[u8],
+    trace: &mut [u64],
+    p: Paused,
+    asked: Asked,
+    pace: Pace,
+) -> Moved
+    ensures { λ r. ⌜ Does pace (words .entry) (messages .entry) (trace .entry) (trace .exit) p asked (r .end) (r .paused) ⌝ }
+{
+    let no = refused(words, messages, trace.len() as u64, p, asked);
+    if no != 0 {
+        return Moved {
+            end: Refusal { number: no, bit: 0 },
+            paused: p,
+        };
+    }
+    moves_on(words, messages, trace, p, asked, pace)
 }
 
 // At most one step, by value.

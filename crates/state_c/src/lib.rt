@@ -2,7 +2,9 @@
 // Which number stands where is said once, for the answer of a run and for the state of one that pauses.
 ghost use mathlib.Core.Path.{_≡_};
 ghost use Rattle.buffer.specs.Put.{Fits, Put};
-ghost use Rattle.state_c.specs.Numbers.{conditionOf, numbersOf, heldNumbers, conditionIn, heldWith, heldIn};
+ghost use Rattle.sequence.specs.Bounds.{stackDepth};
+ghost use Rattle.dispatch.specs.Engines.{engineCount};
+ghost use Rattle.state_c.specs.Numbers.{conditionOf, numbersOf, heldNumbers, numbersAt, conditionIn, heldWith, heldIn};
 use dispatch::Engines;
 use instruction::WordAddress;
 use jumps::Condition;
@@ -94,6 +96,78 @@ pub fn held_numbers(p: Paused) -> [u64; Numbers::HELD]
     out
 }
 
+fn waits_in(numbers: &[u64; Numbers::HELD]) -> [u64; Engines::COUNT]
+    ensures { λ r. ⌜ r ≡ numbersAt 4 engineCount (now (numbers .entry)) ⌝ }
+{
+    [
+        numbers[4],
+        numbers[5],
+        numbers[6],
+        numbers[7],
+        numbers[8],
+        numbers[9],
+    ]
+}
+
+fn totals_in(numbers: &[u64; Numbers::HELD]) -> [u64; Engines::COUNT]
+    ensures { λ r. ⌜ r ≡ numbersAt 10 engineCount (now (numbers .entry)) ⌝ }
+{
+    [
+        numbers[10],
+        numbers[11],
+        numbers[12],
+        numbers[13],
+        numbers[14],
+        numbers[15],
+    ]
+}
+
+fn returns_in(numbers: &[u64; Numbers::HELD]) -> [u64; Sequence::STACK as usize]
+    ensures { λ r. ⌜ r ≡ numbersAt 21 stackDepth (now (numbers .entry)) ⌝ }
+{
+    [
+        numbers[21],
+        numbers[22],
+        numbers[23],
+        numbers[24],
+        numbers[25],
+        numbers[26],
+        numbers[27],
+        numbers[28],
+        numbers[29],
+        numbers[30],
+        numbers[31],
+        numbers[32],
+        numbers[33],
+        numbers[34],
+        numbers[35],
+        numbers[36],
+    ]
+}
+
+fn counters_in(numbers: &[u64; Numbers::HELD]) -> [u64; Sequence::STACK as usize]
+    ensures { λ r. ⌜ r ≡ numbersAt 37 stackDepth (now (numbers .entry)) ⌝ }
+{
+    [
+        numbers[37],
+        numbers[38],
+        numbers[39],
+        numbers[40],
+        numbers[41],
+        numbers[42],
+        numbers[43],
+        numbers[44],
+        numbers[45],
+        numbers[46],
+        numbers[47],
+        numbers[48],
+        numbers[49],
+        numbers[50],
+        numbers[51],
+        numbers[52],
+    ]
+}
+
 // What numbers stand for that a host holds, with this condition.
 fn held_with(condition: Condition, numbers: &[u64; Numbers::HELD]) -> Paused
     ensures { λ r. ⌜ r ≡ heldWith condition (now (numbers .entry)) ⌝ }
@@ -109,62 +183,15 @@ fn held_with(condition: Condition, numbers: &[u64; Numbers::HELD]) -> Paused
         held: numbers[19],
         depth: numbers[20],
     };
+    let state = State {
+        core,
+        returns: returns_in(numbers),
+        counters: counters_in(numbers),
+        waits: waits_in(numbers),
+        totals: totals_in(numbers),
+    };
     Paused {
-        state: State {
-            core,
-            returns: [
-                numbers[21],
-                numbers[22],
-                numbers[23],
-                numbers[24],
-                numbers[25],
-                numbers[26],
-                numbers[27],
-                numbers[28],
-                numbers[29],
-                numbers[30],
-                numbers[31],
-                numbers[32],
-                numbers[33],
-                numbers[34],
-                numbers[35],
-                numbers[36],
-            ],
-            counters: [
-                numbers[37],
-                numbers[38],
-                numbers[39],
-                numbers[40],
-                numbers[41],
-                numbers[42],
-                numbers[43],
-                numbers[44],
-                numbers[45],
-                numbers[46],
-                numbers[47],
-                numbers[48],
-                numbers[49],
-                numbers[50],
-                numbers[51],
-                numbers[52],
-            ],
-            waits: [
-                numbers[4],
-                numbers[5],
-                numbers[6],
-                numbers[7],
-                numbers[8],
-                numbers[9],
-            ],
-            totals: [
-                numbers[10],
-                numbers[11],
-                numbers[12],
-                numbers[13],
-                numbers[14],
-                numbers[15],
-            ],
-        },
+        state,
         budget: numbers[53],
         triggers: numbers[54],
     }
