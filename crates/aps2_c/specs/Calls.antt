@@ -15,7 +15,6 @@ use Rattle.rehearsal.specs.Run.{inputRefused}
 use Rattle.paused.specs.Pause.{callRefused, Went, called}
 use Rattle.paused.specs.declared.Pace.{Pace}
 use Rattle.state_c.specs.Numbers.{heldNumbers, heldIn}
-use Rattle.aps2_c.specs.Firmware.{rulesOf}
 
 -- 1, 2, 3, 5, and then 70
 unfoldable pub conditionRefused : ℕ → Fixed → ℕ

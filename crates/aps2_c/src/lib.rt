@@ -39,7 +39,6 @@ use state_c::lay;
 use state_c::lay_state;
 use to_addresses::to_addresses;
 use to_labels::to_labels;
-use verdict::Verdict;
 use verdict::check;
 use writer::Written;
 use writer::write;

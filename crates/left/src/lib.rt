@@ -11,7 +11,6 @@ ghost use Rattle.dispatch.specs.Trace.{part};
 ghost use Rattle.jumps.specs.State.{Fixed, fixedBy};
 ghost use Rattle.machine.specs.Step.{anyAbove};
 ghost use Rattle.left.specs.Left.{stackFits, canBeHeld, canAllBeHeld, groupFits, countsFit, coreFits, couldBeLeft};
-use dispatch::Engines;
 use jumps::Core;
 use jumps::Setting;
 use jumps::State;

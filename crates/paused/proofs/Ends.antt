@@ -1,13 +1,12 @@
 -- How a step ends: with 0 and no bit where it moved, and never with 40, which is the budget's. So a loop of one step tells whether it was done.
 -- Assumes nothing.
-use mathlib.Core.Path.{_≡_, refl, sym, ap, _∙_}
-use mathlib.Core.Bool.{Bool, true, false, not}
+use mathlib.Core.Path.{_≡_, ap}
+use mathlib.Core.Bool.{false}
 use mathlib.Core.List.{List}
 use Prim.Native.Nat.{ℕ, _+_}
 use native.Mathlib.Omega.{arith}
 use lib.Dec.{ltb, eqb, leb}
 use lib.ListN.{length, getD}
-use Rattle.instruction.specs.Bits.{pick}
 use Rattle.instruction.specs.Table.{noopWord}
 use Rattle.instruction.specs.Form.{numbered, unflagged, noSuchOp, useless, tooShort, askew, wrongNco, widePhase, wideCount, formOf}
 use Rattle.instruction.specs.Word.{spelledBy}

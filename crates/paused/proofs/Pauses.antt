@@ -2,10 +2,10 @@
 -- Assumes nothing.
 use Prim.Native.Nat.{ℕ, _+_, _-_, _≤_, _<_}
 use mathlib.Core.Path.{_≡_, refl, ap, sym, _∙_, subst}
-use mathlib.Core.Bool.{Bool, true, false, not, _||_, true≢false}
+use mathlib.Core.Bool.{Bool, true, false, not, _||_}
 use mathlib.Core.List.{List, append-nil}
 use native.Mathlib.Omega.{arith}
-use borrow.Author.Tests.{eq-eqb, ne-eqb, lt-ltb, le-ltb, ltb-false, eqb-true, eqb-false}
+use borrow.Author.Tests.{ne-eqb, lt-ltb, le-ltb, ltb-false, eqb-true, eqb-false}
 use lib.Dec.{ltb, eqb}
 use lib.ListN.{length}
 use Rattle.instruction.specs.Bits.{pick}
@@ -13,7 +13,6 @@ use Rattle.instruction.specs.Form.{numbered}
 use Rattle.instruction.specs.declared.Refusal.{Refusal}
 use Rattle.buffer.specs.Put.{put}
 use Rattle.buffer.proofs.Laws.{put-none}
-use Rattle.sequence.specs.Bounds.{budgetLimit}
 use Rattle.dispatch.specs.Engines.{engineCount}
 use Rattle.jumps.specs.State.{Fixed, Did, stateOf, stop, stopped}
 use Rattle.jumps.specs.Lent.{Done, Traced}

@@ -1,7 +1,6 @@
 // A run that pauses: its state is kept between calls where the host holds it, a single step or all that the budget leaves at a time.
 // All is judged and done by value; two thin functions update the state behind its reference.
 ghost use mathlib.Core.Path.{_≡_};
-ghost use lib.ListN.{length};
 ghost use Rattle.jumps.specs.State.{fixedBy, fixedIn, stateOf};
 ghost use Rattle.jumps.specs.Lent.{stateIn, Leaves};
 ghost use Rattle.paused.specs.Pause.{freshPaused, callRefused, doneBy, stepsOf, isSingle, endsOf, CanGoOn, settingOf, Does};

@@ -61,15 +61,15 @@ refused-changes-nothing pace budget e p before h end p′ after c =
 
 -- ---- one answer
 
-pub one-called : OneCalled
-one-called w p before r r′ c d =
+pub one-answer-called : OneCalled
+one-answer-called w p before r r′ c d =
     let end = c .answer ∙ sym (d .answer) in
     let held = c .held ∙ sym (d .held) in
     let trace = c .trace ∙ sym (d .trace) in
     λ i. (end i, held i, trace i)
 
-pub one-run-from : OneRunFrom
-one-run-from budget e s before r r′ p q =
+pub one-answer-run-from : OneRunFrom
+one-answer-run-from budget e s before r r′ p q =
     let end = p .done .end ∙ sym (q .done .end) in
     let state = p .done .state ∙ sym (q .done .state) in
     let trace = p .trace ∙ sym (q .trace) in

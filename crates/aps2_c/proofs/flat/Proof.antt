@@ -4,7 +4,7 @@ use mathlib.Core.List.{List, [], _∷_, _++_, append-assoc}
 use Prim.Native.Nat.{ℕ, _+_}
 use native.Mathlib.Omega.{arith}
 use lib.ListN.{length, replicate, length-append}
-use Rattle.buffer.specs.Put.{Fits, Put}
+use Rattle.buffer.specs.Put.{Fits}
 use Rattle.buffer.proofs.Laws.{fits-first, fits-next, puts-both}
 use Rattle.state_c.specs.Numbers.{numbersOf}
 use Rattle.state_c.proofs.Parts.{Long, numbers-length, filled}

@@ -1,5 +1,4 @@
 -- Test by test, as it is defined.
-use mathlib.Core.Path.{_≡_}
 use Rattle.left.specs.Left.{coreFits}
 use Rattle.left.proofs.core_fits.Statement.{statement}
 use Rattle.left.proofs.core_fits.Tie as tie

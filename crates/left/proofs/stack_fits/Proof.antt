@@ -1,7 +1,6 @@
 -- The addresses, and then what is past the depth.
 use mathlib.Core.Path.{_≡_, sym, ap, _∙_}
-use mathlib.Core.Bool.{Bool, not}
-use Prim.Native.Nat.{_≤_}
+use mathlib.Core.Bool.{not}
 use native.Mathlib.Omega.{arith}
 use lib.ListN.{length}
 use Rattle.left.proofs.Laws.{above-part, stack-far, stack-dirty, stack-clean}

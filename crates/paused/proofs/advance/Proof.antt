@@ -1,5 +1,4 @@
 -- Refused with nothing changed, or done.
-use mathlib.Core.Path.{sym, _∙_}
 use denote.Ref.{now}
 use lib.ListN.{length}
 use Rattle.jumps.specs.State.{fixedBy}

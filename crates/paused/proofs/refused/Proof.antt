@@ -1,5 +1,5 @@
 -- Input, then the state, then what was given last time.
-use mathlib.Core.Path.{_≡_, refl, sym, ap, _∙_}
+use mathlib.Core.Path.{sym, ap, _∙_}
 use denote.Ref.{now}
 use borrow.Author.Tests.{not-true, not-false}
 use Rattle.jumps.specs.State.{fixedBy}

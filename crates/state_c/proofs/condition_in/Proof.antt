@@ -1,5 +1,4 @@
 -- By the number.
-use mathlib.Core.Path.{refl}
 use borrow.Author.Tests.{ne-eqb}
 use Rattle.state_c.proofs.condition_in.Statement.{statement}
 use Rattle.state_c.proofs.condition_in.Tie as tie

@@ -1,6 +1,5 @@
 -- With the messages that were given so far.
 use mathlib.Core.Path.{sym}
-use lib.ListN.{length}
 use lib.Seq.{length-take-le}
 use borrow.Author.Needs.{needs}
 use Rattle.lesson.proofs.course.heeds.Statement.{statement}

@@ -1,6 +1,5 @@
 -- What was kept of the line.
 use mathlib.Core.Path.{sym}
-use lib.ListN.{length}
 use lib.Seq.{length-take-le}
 use borrow.Author.Needs.{needs}
 use Rattle.lesson.proofs.course.one_line.Statement.{statement}

@@ -1,6 +1,5 @@
 -- What was kept is said.
 use mathlib.Core.Path.{sym}
-use lib.ListN.{length}
 use lib.Seq.{length-take-le}
 use borrow.Author.Needs.{needs}
 use Rattle.lesson.proofs.heard.hear.Statement.{statement}

@@ -1,7 +1,6 @@
 -- One byte of the buffer is lent.
 use native.Mathlib.Omega.{arith}
 use mathlib.Core.Path.{sym}
-use lib.ListN.{length}
 use lib.Seq.{length-take-le}
 use borrow.Author.Needs.{needs}
 use Rattle.lesson.proofs.heard.next_byte.Statement.{statement}

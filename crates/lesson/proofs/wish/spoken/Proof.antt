@@ -1,6 +1,5 @@
 -- The first word, and what is behind it.
 use mathlib.Core.Path.{sym}
-use lib.ListN.{length}
 use lib.Seq.{length-take-le}
 use borrow.Author.Needs.{needs}
 use Rattle.lesson.proofs.wish.spoken.Statement.{statement}

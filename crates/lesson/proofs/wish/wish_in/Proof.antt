@@ -1,6 +1,5 @@
 -- Without the blanks around it.
 use mathlib.Core.Path.{sym}
-use lib.ListN.{length}
 use lib.Seq.{length-take-le}
 use borrow.Author.Needs.{needs}
 use Rattle.lesson.proofs.wish.wish_in.Statement.{statement}

@@ -1,5 +1,4 @@
 -- By the pace and the number.
-use mathlib.Core.Path.{refl}
 use borrow.Author.Needs.{needs}
 use Rattle.paused.proofs.Pace.ends.Statement.{statement}
 use Rattle.paused.proofs.Pace.ends.Tie as tie
