@@ -1,5 +1,7 @@
 // Dispatch: a group of words goes into the lent trace, and the six engines count what was sent to them.
 // It goes out whole; whether there is room is asked before.
+#![tactic(auto)]
+
 ghost use Rattle.std.specs.Prelude.{◌≡◌, true, false, ◌++◌, ◌+◌, ◌^◌, ◌≤◌, ◌<◌, length, drop};
 ghost use Rattle.instruction.specs.Bits.{pick, span};
 ghost use Rattle.instruction.specs.Table.{engine_select};
@@ -14,7 +16,7 @@ use instruction::{
 };
 
 // The engines that count: waveform, markers 0 to 3, modulator.
-#[derive(Drop)]
+#[derive(Clone, Copy)]
 pub struct Engines;
 
 impl Engines {
@@ -33,7 +35,7 @@ impl Engines {
 }
 
 // What one word adds to the counts: to which engine, how many trigger waits, how many quad-samples; or, as WAIT does, one wait to all.
-#[derive(Drop)]
+#[derive(Clone, Copy)]
 pub struct Share {
     pub engine: u64,
     pub waits: u64,

@@ -1,5 +1,7 @@
 // What a word does to the places of its address, on all depths of a mark at once.
 // The rules are H8's; the masks are shown to be those rules, bit by bit.
+#![tactic(auto)]
+
 ghost use Rattle.std.specs.Prelude.{◌≡◌, ◌*◌, ◌^◌, ◌≤◌};
 ghost use Rattle.instruction.specs.Word.{spelled_by};
 ghost use Rattle.flow.specs.Move.{move_of};
@@ -8,7 +10,7 @@ ghost use Rattle.flow.specs.Masks.{goes_on, bare_of, held_of, deeper_of, Follows
 
 use instruction::{Body, Instruction, WordAddress};
 
-#[derive(Drop)]
+#[derive(Clone, Copy)]
 pub enum Move {
     Other,
     Compare,
@@ -44,7 +46,7 @@ impl Move {
 }
 
 // A mark: bit 2d + c of it says that its address is reached at depth d, with a condition held or not.
-#[derive(Drop)]
+#[derive(Clone, Copy)]
 pub struct Mark;
 
 impl Mark {
@@ -84,7 +86,7 @@ impl Mark {
 }
 
 // What a mark leads to: the bits for the next address, and those for a target.
-#[derive(Drop)]
+#[derive(Clone, Copy)]
 pub struct Moves {
     pub next: u64,
     pub jump: u64,

@@ -1,5 +1,7 @@
 // The instruction: its units, its fields with their places and widths, what a word spells, and the form numbers that it alone decides.
 // Reader and writer judge words and wishes by what stands here, so that both mean the same.
+#![tactic(auto)]
+
 ghost use Rattle.std.specs.Prelude.{◌≡◌, not, ◌||◌, ◌<◌, ◌^◌, ltb, eqb};
 ghost use Rattle.instruction.specs.Bits.{◌gives◌else◌, held, held_in};
 ghost use Rattle.instruction.specs.Table.{engine_select, write_flag, engine_op, target, repeat_count, payload_of, code_of, waveform_of, marker_of, comparison_of, modulator_of, body_of};
@@ -10,7 +12,7 @@ ghost use Rattle.instruction.specs.Word.{code_in, values_in, spelled_by, byte_sp
 // ---- Rules: what the module is that a word is read for.
 
 // Firmware 2.5 to 2.33 is older.
-#[derive(Drop)]
+#[derive(Clone, Copy)]
 pub enum Firmware {
     Current,
     Older,
@@ -28,7 +30,7 @@ impl Firmware {
 }
 
 // All that reading a word depends on beside the word.
-#[derive(Drop)]
+#[derive(Clone, Copy)]
 pub struct Rules {
     pub firmware: Firmware,
 }
@@ -45,7 +47,7 @@ impl Rules {
 
 // ---- Units: samples, quad-samples and word addresses are counted apart.
 
-#[derive(Drop)]
+#[derive(Clone, Copy)]
 pub struct Samples(pub u64);
 
 impl Samples {
@@ -55,7 +57,7 @@ impl Samples {
     pub const SHORTEST: u64 = 8;
 }
 
-#[derive(Drop)]
+#[derive(Clone, Copy)]
 pub struct QuadSamples(pub u64);
 
 impl QuadSamples {
@@ -75,7 +77,7 @@ impl QuadSamples {
     }
 }
 
-#[derive(Drop)]
+#[derive(Clone, Copy)]
 pub struct WordAddress(pub u64);
 
 impl WordAddress {
@@ -104,14 +106,14 @@ impl WordAddress {
 
 // ---- Fields: where one lies in a word, and how many bits it has.
 
-#[derive(Drop)]
+#[derive(Clone, Copy)]
 pub struct Field {
     pub low: u64,
     pub width: u64,
 }
 
 // The op of WAVEFORM and MARKER, and of WAIT and SYNC, whose own it is.
-#[derive(Drop)]
+#[derive(Clone, Copy)]
 pub struct EngineOp;
 
 impl EngineOp {
@@ -143,7 +145,7 @@ impl EngineOp {
     }
 }
 
-#[derive(Drop)]
+#[derive(Clone, Copy)]
 pub struct WaveformFields {
     pub op: u64,
     pub ta: u64,
@@ -197,7 +199,7 @@ impl WaveformFields {
     }
 }
 
-#[derive(Drop)]
+#[derive(Clone, Copy)]
 pub struct MarkerFields {
     pub op: u64,
     pub transition: u64,
@@ -265,7 +267,7 @@ impl MarkerFields {
 }
 
 // What LOAD_REPEAT loads.
-#[derive(Drop)]
+#[derive(Clone, Copy)]
 pub struct Repeats(pub u64);
 
 impl Repeats {
@@ -278,7 +280,7 @@ impl Repeats {
     }
 }
 
-#[derive(Drop)]
+#[derive(Clone, Copy)]
 pub struct Comparison {
     pub code: u64,
     pub mask: u64,
@@ -306,14 +308,14 @@ impl Comparison {
 }
 
 // The payload that RETURN and LOAD_CMP ignore: read as 0, and nothing else may be asked for.
-#[derive(Drop)]
+#[derive(Clone, Copy)]
 pub struct Ignored(pub u64);
 
 impl Ignored {
     pub const PLACE: Field = Field { low: 0, width: 56 };
 }
 
-#[derive(Drop)]
+#[derive(Clone, Copy)]
 pub struct ModulatorFields {
     pub op: u64,
     pub nco: u64,
@@ -444,7 +446,7 @@ impl ModulatorFields {
 // ---- Refusals: one number each.
 
 // The bit is the one that 111, 112 and 113 are given for, and 0 beside every other number.
-#[derive(Drop)]
+#[derive(Clone, Copy)]
 pub struct Refusal {
     pub number: u64,
     pub bit: u64,
@@ -490,7 +492,7 @@ impl Refusal {
 
 // ---- The instruction.
 
-#[derive(Drop)]
+#[derive(Clone, Copy)]
 pub enum Body {
     Waveform(WaveformFields),
     Marker(MarkerFields),
@@ -508,7 +510,7 @@ pub enum Body {
     Noop,
 }
 
-#[derive(Drop)]
+#[derive(Clone, Copy)]
 pub struct Instruction {
     pub engine: u64,
     pub write: u64,

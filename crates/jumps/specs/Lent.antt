@@ -1,7 +1,6 @@
--- What the functions of the step promise of what is lent to them: the core by value, and its arrays behind references.
+-- What the functions of the step promise of what is lent to them: the core by value, and its arrays.
 -- It carries the code; who believes the run believes `Rehearsed` (crate rehearsal) and not these.
 use Rattle.std.specs.Prelude.{ℕ, List, ◌≡◌}
-use Rattle.std.specs.Borrow.{Bor}
 use Rattle.buffer.specs.Put.{put}
 use Rattle.jumps.specs.State.{Did, state_of}
 use Rattle.jumps.specs.declared.Core.{Core}
@@ -19,9 +18,9 @@ pub record Traced (d : Did) (k : ℕ) (before after : List ℕ) (r : Stepped) (r
   pub trace : after ≡ put before k d.out
 
 -- the state as lent: its core by value, and its arrays
-abbrev pub state_in : Core → Bor (List ℕ) → Bor (List ℕ) → Bor (List ℕ) → Bor (List ℕ) → State
-state_in core returns counters waits totals = state_of core returns.now counters.now waits.now totals.now
+abbrev pub state_in : Core → List ℕ → List ℕ → List ℕ → List ℕ → State
+state_in core returns counters waits totals = state_of core returns counters waits totals
 
 -- what is left of it: the trace before and after, the answer, and the arrays
-abbrev pub Leaves : Did → ℕ → Bor (List ℕ) → Bor (List ℕ) → Stepped → Bor (List ℕ) → Bor (List ℕ) → Bor (List ℕ) → Bor (List ℕ) → Type 0
-Leaves d k before after r returns counters waits totals = Traced d k before.now after.now r returns.now counters.now waits.now totals.now
+abbrev pub Leaves : Did → ℕ → List ℕ → List ℕ → Stepped → List ℕ → List ℕ → List ℕ → List ℕ → Type 0
+Leaves d k before after r returns counters waits totals = Traced d k before after r returns counters waits totals

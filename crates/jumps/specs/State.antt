@@ -1,7 +1,6 @@
 -- The state of a run, what stays fixed in it, and what a step did. Document 01, "One step".
 -- antt has no record update, so each field of the core has a function that sets it.
 use Rattle.std.specs.Prelude.{ℕ, List, [], length, replicate}
-use Rattle.std.specs.Borrow.{Bor}
 use Rattle.instruction.specs.Form.{numbered}
 use Rattle.instruction.specs.declared.Refusal.{Refusal}
 use Rattle.sequence.specs.Bounds.{stack_depth}
@@ -23,9 +22,9 @@ pub record Fixed : Type 0 where
 abbrev pub fixed_by : List ℕ → List ℕ → ℕ → Setting → Fixed
 fixed_by words messages room setting = record { words = words; messages = messages; room = room; setting = setting }
 
--- the same of words, messages and a trace that are lent, behind their references
-abbrev pub fixed_in : Bor (List ℕ) → Bor (List ℕ) → Bor (List ℕ) → Setting → Fixed
-fixed_in words messages trace setting = fixed_by words.now messages.now (length trace.now) setting
+-- the same of words, messages and a trace that are lent
+abbrev pub fixed_in : List ℕ → List ℕ → List ℕ → Setting → Fixed
+fixed_in words messages trace setting = fixed_by words messages (length trace) setting
 
 abbrev pub state_of : Core → List ℕ → List ℕ → List ℕ → List ℕ → State
 state_of core returns counters waits totals = record { core = core; returns = returns; counters = counters; waits = waits; totals = totals }

@@ -1,5 +1,7 @@
 // The state of a run, and what changes it without dispatch: jumps, the repeat counter, comparison and messages.
 // The core goes by value and the stack is lent beside it: measured, this runs as plain C does.
+#![tactic(auto)]
+
 ghost use Rattle.std.specs.Prelude.{◌≡◌, List, ℕ, ◌<◌};
 ghost use Rattle.instruction.specs.Bits.{pick};
 ghost use Rattle.sequence.specs.Bounds.{budget_limit};
@@ -12,7 +14,7 @@ use dispatch::Engines;
 use instruction::{Comparison, Instruction, QuadSamples, Refusal, Rules, WordAddress};
 use sequence::Sequence;
 
-#[derive(Drop)]
+#[derive(Clone, Copy)]
 pub enum Condition {
     Absent,
     Fails,
@@ -20,7 +22,7 @@ pub enum Condition {
 }
 
 // All of the state that is no array.
-#[derive(Drop)]
+#[derive(Clone, Copy)]
 pub struct Core {
     pub address: WordAddress,
     pub steps: u64,
@@ -33,7 +35,7 @@ pub struct Core {
     pub depth: u64,
 }
 
-#[derive(Drop)]
+#[derive(Clone, Copy)]
 pub struct State {
     pub core: Core,
     pub returns: [u64; Sequence::STACK as usize],
@@ -43,7 +45,7 @@ pub struct State {
 }
 
 // What is fixed in a run beside its words, messages and trace.
-#[derive(Drop)]
+#[derive(Clone, Copy)]
 pub struct Setting {
     pub wave: QuadSamples,
     pub rules: Rules,
@@ -51,7 +53,7 @@ pub struct Setting {
 }
 
 // How a step ended, 0 where it moved, and the core then.
-#[derive(Drop)]
+#[derive(Clone, Copy)]
 pub struct Stepped {
     pub end: Refusal,
     pub core: Core,

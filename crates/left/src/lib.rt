@@ -1,5 +1,7 @@
 // A state that a host hands back: whether a run could have left it, judged by the fields that document 02 lists.
 // What passes is safe to step, whoever made it up.
+#![tactic(auto)]
+
 ghost use Rattle.std.specs.Prelude.{◌≡◌, List, ℕ, ◌-◌, ◌*◌, ◌^◌, ◌≤◌, ◌<◌, ltb, length};
 ghost use Rattle.reader.specs.Reading.{reading_of};
 ghost use Rattle.sequence.specs.Bounds.{stack_depth};
@@ -13,7 +15,7 @@ use reader::{Reading, coarse_of, instruction_in};
 use sequence::Sequence;
 
 // What a dispatched word adds to a total at the most.
-#[derive(Drop)]
+#[derive(Clone, Copy)]
 struct Most;
 
 impl Most {

@@ -1,5 +1,7 @@
 // What a look at one address tells: whether all that it leads to is marked, and whether its word faults.
 // It takes nothing for granted of the marks, so that it proves what the walk has done.
+#![tactic(auto)]
+
 ghost use Rattle.std.specs.Prelude.{◌≡◌, ◌+◌, ◌≤◌, ◌<◌, length};
 ghost use Rattle.std.specs.Int.Bits.{bit_or};
 ghost use Rattle.flow.specs.Walk.{deepest};

@@ -1,7 +1,6 @@
 -- What every state of a run keeps, so that no sum overflows and no index is out of range: what the step asks of its state.
 -- It holds of the fresh state and is kept by every step (proofs/Kept.antt). Last, what only the code asks of a word.
 use Rattle.std.specs.Prelude.{ℕ, ◌-◌, ◌^◌, ◌≤◌, ◌<◌, Bool, true, false, List, eqb, length}
-use Rattle.std.specs.Borrow.{Bor}
 use Rattle.instruction.specs.Bits.{pick}
 use Rattle.instruction.specs.declared.Instruction.{Instruction}
 use Rattle.instruction.specs.declared.Body.{Body}
@@ -70,7 +69,7 @@ group_refused held i n wave =
     (pick (eqb (placing_of wave n i.body) 0) (pick (breaks_group held i.write i.body) 22 0) (placing_of wave n i.body))
 
 -- what is left of what is lent by a function that takes no message and leaves the stack alone, whatever these are
-abbrev pub Outward : (Fixed → State → Did) → Bor (List ℕ) → Bor (List ℕ) → Bor (List ℕ) → Core → Setting → Stepped → Bor (List ℕ) → Bor (List ℕ) → Bor (List ℕ) → Bor (List ℕ) → Type 0
+abbrev pub Outward : (Fixed → State → Did) → List ℕ → List ℕ → List ℕ → Core → Setting → Stepped → List ℕ → List ℕ → List ℕ → List ℕ → Type 0
 Outward did words before after s setting r waits totals waits' totals' =
     (messages returns counters : List ℕ)
-    → Traced (did (fixed_by words.now messages (length before.now) setting) (state_of s returns counters waits.now totals.now)) s.sent before.now after.now r returns counters waits'.now totals'.now
+    → Traced (did (fixed_by words messages (length before) setting) (state_of s returns counters waits totals)) s.sent before after r returns counters waits' totals'

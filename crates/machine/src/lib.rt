@@ -1,5 +1,7 @@
 // One step of a sequence on the module's instruction set.
 // The core goes by value and the arrays are lent beside it: measured, this runs as plain C does.
+#![tactic(auto)]
+
 ghost use Rattle.std.specs.Prelude.{◌≡◌, true, false, length, eqb};
 ghost use Rattle.instruction.specs.Bits.{pick};
 ghost use Rattle.instruction.specs.Table.{code_of};
@@ -25,8 +27,8 @@ fn send(
     s: Core,
 ) -> Stepped
     requires { Sends words.now (length trace.old) s waits.old totals.old }
-    ensures { (setting : Setting) → Outward send_of words.entry trace.entry trace.exit s setting result
-        waits.entry totals.entry waits.exit totals.exit }
+    ensures { (setting : Setting) → Outward send_of words.now trace.old trace.new s setting result
+        waits.old totals.old waits.new totals.new }
 {
     let held = s.held;
     let sent = s.sent;
@@ -78,8 +80,8 @@ fn outward(
     setting: Setting,
 ) -> Stepped
     requires { Sends words.now (length trace.old) s waits.old totals.old × (goes_out body ≡ true) }
-    ensures { Outward (λ e s. act_of e s write body) words.entry trace.entry trace.exit s setting result
-        waits.entry totals.entry waits.exit totals.exit }
+    ensures { Outward (λ e s. act_of e s write body) words.now trace.old trace.new s setting result
+        waits.old totals.old waits.new totals.new }
 {
     if awaits_trigger(body, setting.triggers, waits) {
         return Stepped::stop(Stepped::TRIGGER_AWAITED, s);
@@ -104,10 +106,10 @@ fn act(
     body: Body,
     setting: Setting,
 ) -> Stepped
-    requires { At (fixed_in words messages trace setting) (state_in s returns counters waits totals) }
-    ensures { Leaves (act_of (fixed_in words.entry messages.entry trace.entry setting)
-        (state_in s returns.entry counters.entry waits.entry totals.entry) write body)
-        s.sent trace.entry trace.exit result returns.exit counters.exit waits.exit totals.exit }
+    requires { At (fixed_in words.now messages.now trace.old setting) (state_in s returns.old counters.old waits.old totals.old) }
+    ensures { Leaves (act_of (fixed_in words.now messages.now trace.old setting)
+        (state_in s returns.old counters.old waits.old totals.old) write body)
+        s.sent trace.old trace.new result returns.new counters.new waits.new totals.new }
 {
     match body {
         Body::LoadRepeat(n) => return Stepped::moves(s.loads(n.0)),
@@ -169,10 +171,10 @@ fn execute(
     i: Instruction,
     setting: Setting,
 ) -> Stepped
-    requires { At (fixed_in words messages trace setting) (state_in s returns counters waits totals) }
-    ensures { Leaves (execute_of (fixed_in words.entry messages.entry trace.entry setting)
-        (state_in s returns.entry counters.entry waits.entry totals.entry) i)
-        s.sent trace.entry trace.exit result returns.exit counters.exit waits.exit totals.exit }
+    requires { At (fixed_in words.now messages.now trace.old setting) (state_in s returns.old counters.old waits.old totals.old) }
+    ensures { Leaves (execute_of (fixed_in words.now messages.now trace.old setting)
+        (state_in s returns.old counters.old waits.old totals.old) i)
+        s.sent trace.old trace.new result returns.new counters.new waits.new totals.new }
 {
     let n = words.len() as u64;
     let refused = group_refused(s.held, i, n, setting.wave);
@@ -201,10 +203,10 @@ pub fn step(
     s: Core,
     setting: Setting,
 ) -> Stepped
-    requires { Ready (fixed_in words messages trace setting) (state_in s returns counters waits totals) }
-    ensures { Leaves (step_of (fixed_in words.entry messages.entry trace.entry setting)
-        (state_in s returns.entry counters.entry waits.entry totals.entry))
-        s.sent trace.entry trace.exit result returns.exit counters.exit waits.exit totals.exit }
+    requires { Ready (fixed_in words.now messages.now trace.old setting) (state_in s returns.old counters.old waits.old totals.old) }
+    ensures { Leaves (step_of (fixed_in words.now messages.now trace.old setting)
+        (state_in s returns.old counters.old waits.old totals.old))
+        s.sent trace.old trace.new result returns.new counters.new waits.new totals.new }
 {
     let at = s.address.0 as usize;
     if words.len() <= at {

@@ -1,5 +1,7 @@
 // The bits that each op code names, worked out from the places and widths of its fields: those that reading and writing go by.
 // All of it is known when the program is compiled, so what is left of it there is a table.
+#![tactic(auto)]
+
 ghost use Rattle.std.specs.Prelude.{◌≡◌};
 ghost use Rattle.named.specs.Named.{ones, payload_bits, named_bits, InWord};
 

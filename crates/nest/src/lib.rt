@@ -1,5 +1,7 @@
 // A block of plays, holds and counted repeats, and the words that it becomes: for physicists, who write nests, not jumps.
 // A word goes to the next place of its level: the main line is level 0, and the body of a repeat is one level further in.
+#![tactic(auto)]
+
 ghost use Rattle.std.specs.Prelude.{◌≡◌, [], ◌∷◌, suc, ◌+◌, ◌≤◌, ◌<◌, length, get_or};
 ghost use Rattle.instruction.specs.Word.{word_of};
 ghost use Rattle.nest.specs.Block.{nest_limit, high};
@@ -11,7 +13,7 @@ use laid::word::{
 };
 use sequence::Sequence;
 
-#[derive(Drop)]
+#[derive(Clone, Copy)]
 pub struct Nest;
 
 impl Nest {
@@ -45,7 +47,7 @@ impl Nest {
 }
 
 // A line of a block text, as it was written.
-#[derive(Drop)]
+#[derive(Clone, Copy)]
 pub enum Line {
     Pulse(WaveformFields),
     Repeat(u64),

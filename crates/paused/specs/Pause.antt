@@ -1,7 +1,6 @@
 -- A call on a run that pauses, document 02, CR 8: what it is refused for, what it does, and what it leaves.
 -- "Keep the run state between calls, updated where the host holds it, with a single-step call and a go-on call, both taking budget, messages and triggers".
 use Rattle.std.specs.Prelude.{ℕ, ◌-◌, ◌≤◌, Bool, true, false, not, ◌||◌, ◌&&◌, List, [], ◌≡◌, ltb, eqb, length}
-use Rattle.std.specs.Borrow.{Bor}
 use Rattle.instruction.specs.Bits.{pick, ◌gives◌else◌}
 use Rattle.instruction.specs.Form.{numbered}
 use Rattle.instruction.specs.declared.Refusal.{Refusal}
@@ -72,8 +71,8 @@ pub record Called (w : Went) (p : Paused) (before : List ℕ) (end : Refusal) (p
 abbrev pub setting_of : Asked → Setting
 setting_of k = record { wave = k.wave; rules = k.rules; triggers = k.triggers }
 
-abbrev pub Does : Pace → Bor (List ℕ) → Bor (List ℕ) → Bor (List ℕ) → Bor (List ℕ) → Paused → Asked → Refusal → Paused → Type 0
-Does pace words messages before after p k end p' = Called (called pace k.budget (fixed_in words messages before (setting_of k)) p) p before.now end p' after.now
+abbrev pub Does : Pace → List ℕ → List ℕ → List ℕ → List ℕ → Paused → Asked → Refusal → Paused → Type 0
+Does pace words messages before after p k end p' = Called (called pace k.budget (fixed_in words messages before (setting_of k)) p) p before end p' after
 
 -- ---- what only carries the code: both paces take the run's loop, so that the step has one caller
 

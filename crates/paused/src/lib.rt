@@ -1,5 +1,7 @@
 // A run that pauses: its state is kept between calls where the host holds it, a single step or all that the budget leaves at a time.
 // All is judged and done by value; two thin functions update the state behind its reference.
+#![tactic(auto)]
+
 ghost use Rattle.std.specs.Prelude.{◌≡◌};
 ghost use Rattle.jumps.specs.State.{fixed_by, fixed_in, state_of};
 ghost use Rattle.jumps.specs.Lent.{state_in, Leaves};
@@ -13,7 +15,7 @@ use rehearsal::{Answer, input_refused, run_from};
 use sequence::Sequence;
 
 // What the host holds: the state of the run, and what the last call that was not refused gave.
-#[derive(Drop)]
+#[derive(Clone, Copy)]
 pub struct Paused {
     pub state: State,
     pub budget: u64,
@@ -21,7 +23,7 @@ pub struct Paused {
 }
 
 // What a call brings beside words, messages and trace; triggers and budget as totals so far.
-#[derive(Drop)]
+#[derive(Clone, Copy)]
 pub struct Asked {
     pub wave: QuadSamples,
     pub rules: Rules,
@@ -29,14 +31,14 @@ pub struct Asked {
     pub budget: u64,
 }
 
-#[derive(Drop)]
+#[derive(Clone, Copy)]
 pub enum Pace {
     Single,
     On,
 }
 
 // How a call ended, and what the host then holds.
-#[derive(Drop)]
+#[derive(Clone, Copy)]
 pub struct Moved {
     pub end: Refusal,
     pub paused: Paused,
@@ -161,10 +163,10 @@ fn goes_on(
     budget: u64,
     setting: Setting,
 ) -> Stepped
-    requires { CanGoOn budget (fixed_in words messages trace setting) (state_in s returns counters waits totals) }
-    ensures { Leaves (done_by pace budget (fixed_in words.entry messages.entry trace.entry setting)
-        (state_in s returns.entry counters.entry waits.entry totals.entry))
-        s.sent trace.entry trace.exit result returns.exit counters.exit waits.exit totals.exit }
+    requires { CanGoOn budget (fixed_in words.now messages.now trace.old setting) (state_in s returns.old counters.old waits.old totals.old) }
+    ensures { Leaves (done_by pace budget (fixed_in words.now messages.now trace.old setting)
+        (state_in s returns.old counters.old waits.old totals.old))
+        s.sent trace.old trace.new result returns.new counters.new waits.new totals.new }
 {
     let done = s.steps;
     if budget <= done {
@@ -194,8 +196,8 @@ fn moves_on(
     asked: Asked,
     pace: Pace,
 ) -> Moved
-    requires { call_refused asked.budget (fixed_in words messages trace (setting_of asked)) p ≡ 0 }
-    ensures { Does pace words.entry messages.entry trace.entry trace.exit p asked result.end result.paused }
+    requires { call_refused asked.budget (fixed_in words.now messages.now trace.old (setting_of asked)) p ≡ 0 }
+    ensures { Does pace words.now messages.now trace.old trace.new p asked result.end result.paused }
 {
     let s = p.state;
     let core = s.core;
@@ -231,7 +233,7 @@ fn advance(
     asked: Asked,
     pace: Pace,
 ) -> Moved
-    ensures { Does pace words.entry messages.entry trace.entry trace.exit p asked result.end result.paused }
+    ensures { Does pace words.now messages.now trace.old trace.new p asked result.end result.paused }
 {
     let no = refused(words, messages, trace.len() as u64, p, asked);
     if no != 0 {
@@ -245,14 +247,14 @@ fn advance(
 
 // At most one step, by value.
 pub fn stepped(words: &[u64], messages: &[u8], trace: &mut [u64], p: Paused, asked: Asked) -> Moved
-    ensures { Does Pace.Single words.entry messages.entry trace.entry trace.exit p asked result.end result.paused }
+    ensures { Does Pace.Single words.now messages.now trace.old trace.new p asked result.end result.paused }
 {
     advance(words, messages, trace, p, asked, Pace::Single)
 }
 
 // All steps that the budget leaves, by value.
 pub fn gone_on(words: &[u64], messages: &[u8], trace: &mut [u64], p: Paused, asked: Asked) -> Moved
-    ensures { Does Pace.On words.entry messages.entry trace.entry trace.exit p asked result.end result.paused }
+    ensures { Does Pace.On words.now messages.now trace.old trace.new p asked result.end result.paused }
 {
     advance(words, messages, trace, p, asked, Pace::On)
 }
@@ -277,7 +279,7 @@ pub fn step_once(
     state: &mut Paused,
     asked: Asked,
 ) -> Refusal
-    ensures { Does Pace.Single words.entry messages.entry trace.entry trace.exit state.old asked result state.new }
+    ensures { Does Pace.Single words.now messages.now trace.old trace.new state.old asked result state.new }
 {
     let p = *state;
     let r = stepped(words, messages, trace, p, asked);
@@ -294,7 +296,7 @@ pub fn go_on(
     state: &mut Paused,
     asked: Asked,
 ) -> Refusal
-    ensures { Does Pace.On words.entry messages.entry trace.entry trace.exit state.old asked result state.new }
+    ensures { Does Pace.On words.now messages.now trace.old trace.new state.old asked result state.new }
 {
     let p = *state;
     let r = gone_on(words, messages, trace, p, asked);

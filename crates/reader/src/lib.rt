@@ -1,5 +1,7 @@
 // Reading: every 64-bit word is one instruction or has one form number.
 // The word is judged by all its bits, never by its header alone.
+#![tactic(auto)]
+
 ghost use Rattle.std.specs.Prelude.{◌≡◌, true, false, ◌<◌};
 ghost use Rattle.instruction.specs.Bits.{held};
 ghost use Rattle.instruction.specs.Table.{word_bits, engine_select, write_flag};
@@ -15,7 +17,7 @@ use instruction::{
 };
 use named::{named_bits, payload_bits};
 
-#[derive(Drop)]
+#[derive(Clone, Copy)]
 pub enum Reading {
     Accepted(Instruction),
     Refused(Refusal),

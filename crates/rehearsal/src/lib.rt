@@ -1,5 +1,7 @@
 // The rehearsal: a run without a module, for every list of words, waveform length, firmware, messages, triggers, trace and budget.
 // It takes exactly the steps that the instruction set gives.
+#![tactic(auto)]
+
 ghost use Rattle.std.specs.Prelude.{◌≡◌};
 ghost use Rattle.instruction.specs.Form.{numbered};
 ghost use Rattle.jumps.specs.State.{fixed_in, fresh};
@@ -13,7 +15,7 @@ use machine::step;
 use sequence::Sequence;
 
 // How the run ended and why, and the whole state then.
-#[derive(Drop)]
+#[derive(Clone, Copy)]
 pub struct Answer {
     pub end: Refusal,
     pub state: State,
@@ -60,10 +62,10 @@ pub fn run_from(
     budget: u64,
     setting: Setting,
 ) -> Stepped
-    requires { CanGo budget (fixed_in words messages trace setting) (state_in s returns counters waits totals) }
-    ensures { Leaves (run_of budget (fixed_in words.entry messages.entry trace.entry setting)
-        (state_in s returns.entry counters.entry waits.entry totals.entry))
-        s.sent trace.entry trace.exit result returns.exit counters.exit waits.exit totals.exit }
+    requires { CanGo budget (fixed_in words.now messages.now trace.old setting) (state_in s returns.old counters.old waits.old totals.old) }
+    ensures { Leaves (run_of budget (fixed_in words.now messages.now trace.old setting)
+        (state_in s returns.old counters.old waits.old totals.old))
+        s.sent trace.old trace.new result returns.new counters.new waits.new totals.new }
 {
     let mut at = s;
     let mut left = budget;
@@ -90,8 +92,8 @@ fn from_fresh(
     budget: u64,
     setting: Setting,
 ) -> Answer
-    requires { CanGo budget (fixed_in words messages trace setting) fresh }
-    ensures { Rehearsed (run_of budget (fixed_in words.entry messages.entry trace.entry setting) fresh)
+    requires { CanGo budget (fixed_in words.now messages.now trace.old setting) fresh }
+    ensures { Rehearsed (run_of budget (fixed_in words.now messages.now trace.old setting) fresh)
         trace.old trace.new result }
 {
     let mut returns = [0; Sequence::STACK as usize];
@@ -133,7 +135,7 @@ pub fn run(
     trace: &mut [u64],
     budget: u64,
 ) -> Answer
-    ensures { Rehearsed (rehearse budget (fixed_in words.entry messages.entry trace.entry (record { wave = wave; rules = rules; triggers = triggers })))
+    ensures { Rehearsed (rehearse budget (fixed_in words.now messages.now trace.old (record { wave = wave; rules = rules; triggers = triggers })))
         trace.old trace.new result }
 {
     let refused = input_refused(words.len() as u64, wave, budget);

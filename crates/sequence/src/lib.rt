@@ -1,12 +1,14 @@
 // The sequence: its bounds, each named once, the input numbers, and where a word may stand.
 // Check and run judge by what stands here, so that both mean the same.
+#![tactic(auto)]
+
 ghost use Rattle.std.specs.Prelude.{◌≡◌, not, ◌+◌, leb};
 ghost use Rattle.sequence.specs.Bounds.{lengths_refused};
 ghost use Rattle.sequence.specs.Placing.{is_engine, out_of_wave, placing_of};
 
 use instruction::{Body, EngineOp, QuadSamples, WaveformFields, WordAddress};
 
-#[derive(Drop)]
+#[derive(Clone, Copy)]
 pub struct Sequence;
 
 impl Sequence {

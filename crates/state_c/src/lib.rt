@@ -1,5 +1,7 @@
 // A run's state as the numbers that C holds: laid down one behind the other, and taken up again.
 // Which number stands where is said once, for the answer of a run and for the state of one that pauses.
+#![tactic(auto)]
+
 ghost use Rattle.std.specs.Prelude.{◌≡◌};
 ghost use Rattle.buffer.specs.Put.{Fits, Put};
 ghost use Rattle.sequence.specs.Bounds.{stack_depth};
@@ -13,7 +15,7 @@ use paused::Paused;
 use sequence::Sequence;
 
 // How many numbers there are of a state, and of one that a host holds, and where its condition stands.
-#[derive(Drop)]
+#[derive(Clone, Copy)]
 pub struct Numbers;
 
 impl Numbers {

@@ -1,5 +1,7 @@
 // The whole check: the input, then each word where it stands, then flow.
 // A fault at a word is read off its mark; what lies past the last word is asked for once, at the end.
+#![tactic(auto)]
+
 ghost use Rattle.std.specs.Prelude.{◌≡◌, ◌<◌, ◌-◌, length, drop};
 ghost use Rattle.sequence.specs.Bounds.{group_size};
 ghost use Rattle.verdict.specs.Flow.{FlowIs, CanJudge};
@@ -14,7 +16,7 @@ use sequence::Sequence;
 use walk::Seen;
 
 // A refusal and its place; number 0 at place 0 is accepted.
-#[derive(Drop)]
+#[derive(Clone, Copy)]
 pub struct Verdict {
     pub refusal: Refusal,
     pub place: WordAddress,

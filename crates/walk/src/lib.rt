@@ -1,5 +1,7 @@
 // The places of the walk, marked in a lent buffer; the work grows linearly with the number of words.
 // Hints say which addresses are worth a visit and carry no promise: a last look at every address proves that nothing is missing.
+#![tactic(auto)]
+
 ghost use Rattle.std.specs.Prelude.{◌≤◌, ◌<◌, length};
 ghost use Rattle.sequence.specs.Bounds.{word_limit};
 ghost use Rattle.look.specs.Closed.{MarksFit};
@@ -11,7 +13,7 @@ use look::{is_clean, is_closed};
 use sequence::Sequence;
 
 // Where the walk is: the hints held, the CALLs listed, the depths at which a RETURN was met, and the address at hand with its mark.
-#[derive(Drop)]
+#[derive(Clone, Copy)]
 pub struct Trail {
     pub hints: usize,
     pub calls: usize,
@@ -28,14 +30,14 @@ impl Trail {
 }
 
 // What a look finds.
-#[derive(Drop)]
+#[derive(Clone, Copy)]
 pub struct Look {
     pub open: usize,
     pub faulty: usize,
 }
 
 // What the walk has seen: the depths at which a RETURN is marked, and the first address that faults, or n.
-#[derive(Drop)]
+#[derive(Clone, Copy)]
 pub struct Seen {
     pub back: u64,
     pub faulty: WordAddress,

@@ -1,5 +1,7 @@
 // Writing: every instruction asked for is a word, or has one number and word zero.
 // What is written with number 0 reads back as the instruction asked for.
+#![tactic(auto)]
+
 ghost use Rattle.std.specs.Prelude.{◌≡◌};
 ghost use Rattle.writer.specs.Writing.{asked_of, written_of};
 
@@ -7,7 +9,7 @@ use instruction::{Instruction, Refusal, Rules};
 use laid::widths::fits;
 use laid::word::word_of;
 
-#[derive(Drop)]
+#[derive(Clone, Copy)]
 pub struct Written {
     pub number: u64,
     pub word: u64,

@@ -1,0 +1,1 @@
+-- The two bits of the depth that faults.

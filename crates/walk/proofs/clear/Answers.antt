@@ -1,0 +1,1 @@
+-- The first a marks are clear, the others as they were.

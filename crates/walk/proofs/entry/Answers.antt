@@ -1,0 +1,1 @@
+-- An address of 16 bits.
