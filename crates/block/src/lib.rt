@@ -1,5 +1,7 @@
 // A block text as words: for physicists who write what is played and how often, and leave calls and counters to us.
 // Every line is judged before the first word is written, so that the buffer has all words or is as it was.
+#![tactic(auto)]
+
 ghost use Rattle.std.specs.Prelude.{◌≡◌, true, false, suc, ◌≤◌, ◌<◌, ◌^◌, length};
 ghost use Rattle.nest.specs.Block.{nest_limit};
 ghost use Rattle.nest.specs.Layout.{sum_of, starts_from, laid_in};
@@ -12,7 +14,7 @@ use nest::{Line, Nest, close_repeat, open_repeat, put_park, put_pulse, put_sync}
 use sequence::Sequence;
 
 // What is told of a text: 0 and how many words it has, or the number of a refusal and its line.
-#[derive(Drop)]
+#[derive(Clone, Copy)]
 pub struct Translation {
     pub number: u64,
     pub line: u64,

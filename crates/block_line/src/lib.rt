@@ -1,5 +1,7 @@
 // A line of a block text: what it says, and its number where it stands.
 // The judge asks for the number before anything is written; the translator needs only what a line says.
+#![tactic(auto)]
+
 ghost use Rattle.std.specs.Prelude.{◌≡◌, [], ◌∷◌, true, ℕ, ◌≤◌, ◌<◌, length, drop};
 ghost use Rattle.text.specs.Cut.{starts_with};
 ghost use Rattle.nest.specs.Block.{nest_limit, pulse_number};
@@ -13,7 +15,7 @@ use sequence::Sequence;
 use text::{number_then, starts_with};
 
 // A line, and where the next one starts.
-#[derive(Drop)]
+#[derive(Clone, Copy)]
 pub struct Taken {
     pub line: Line,
     pub next: usize,

@@ -1,5 +1,7 @@
 // The two editions of a listing, line by line: addresses that count up, or labels before the words they mean.
 // What is wrong with a line, where it jumps, and what a move from one edition to the other tells of a text.
+#![tactic(auto)]
+
 ghost use Rattle.std.specs.Prelude.{◌≡◌, true, [], ◌≤◌, ◌<◌, length, get_or};
 ghost use Rattle.text.specs.Cut.{tab, cut, fields_after, row_at};
 ghost use Rattle.editions.specs.Editions.{jumps};
@@ -15,7 +17,7 @@ use names::{Names, named};
 use text::{find, number_from, same};
 
 // What is told of a text: 0 and how many bytes it moves to, or the number of a refusal and its line.
-#[derive(Drop)]
+#[derive(Clone, Copy)]
 pub struct Moved {
     pub number: u64,
     pub line: u64,
@@ -38,7 +40,7 @@ impl Moved {
 }
 
 // Room for a text that is written whole or not at all: one more than what is left of it, and 0 where what is asked for does not fit.
-#[derive(Drop)]
+#[derive(Clone, Copy)]
 pub struct Room {
     pub left: usize,
 }
@@ -92,7 +94,7 @@ pub fn last_field(line: &[u8]) -> usize
 }
 
 // A line of edition 1: what is wrong with it, or its target and where its name starts.
-#[derive(Drop)]
+#[derive(Clone, Copy)]
 pub struct LineOne {
     pub number: u64,
     pub target: u64,
@@ -167,7 +169,7 @@ pub fn glance_one(line: &[u8]) -> LineOne
 }
 
 // Whether a line of edition 2 is a label line, and where its first field ends.
-#[derive(Drop)]
+#[derive(Clone, Copy)]
 pub struct Kind {
     pub label: bool,
     pub end: usize,
@@ -219,7 +221,7 @@ fn target_from(line: &[u8], end: usize) -> usize
 }
 
 // A line of edition 2: what is wrong with its shape, whether it is a label line or a jump, and then where its label starts.
-#[derive(Drop)]
+#[derive(Clone, Copy)]
 pub struct LineTwo {
     pub number: u64,
     pub label: bool,

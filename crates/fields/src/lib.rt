@@ -1,5 +1,7 @@
 // Fields of a line that are all numbers: what stands behind the name, for everyone who reads tab fields.
 // Just so many, each a plain decimal, and nothing more.
+#![tactic(auto)]
+
 ghost use Rattle.std.specs.Prelude.{◌≤◌, length};
 ghost use Rattle.text.specs.Cut.{fields_after};
 ghost use Rattle.fields.specs.Fields.{NumbersRead};

@@ -5,7 +5,7 @@ ghost use Rattle.label.specs.Key.{count, key_at, means_at, same_key, empty, slot
 
 use crate::Key;
 
-#[derive(Drop)]
+#[derive(Clone, Copy)]
 pub struct Table;
 
 impl Table {
@@ -146,7 +146,7 @@ fn build(keys: &[u64], table: &mut [u32]) {
 }
 
 // What a look tells: whether the table is to be used, and then the first label that stood before; the number of labels where none did.
-#[derive(Drop)]
+#[derive(Clone, Copy)]
 pub struct Sight {
     pub ready: bool,
     pub double: usize,

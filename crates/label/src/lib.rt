@@ -1,5 +1,7 @@
 // Labels of a listing: their shape, a label packed into two numbers, and where one stands first among many.
 // The table that finds it carries no promise: a last look at every label proves that it finds them all.
+#![tactic(auto)]
+
 ghost use Rattle.std.specs.Prelude.{◌≡◌, ◌≤◌, ◌<◌, length};
 ghost use Rattle.std.proofs.Math.Seq.{slice};
 ghost use Rattle.label.specs.Label.{label_size, is_label_byte, is_label};
@@ -7,7 +9,7 @@ ghost use Rattle.label.specs.Key.{Short, value_of, key_of};
 
 pub mod index;
 
-#[derive(Drop)]
+#[derive(Clone, Copy)]
 pub struct Label;
 
 impl Label {
@@ -16,7 +18,7 @@ impl Label {
 }
 
 // A label as two numbers.
-#[derive(Drop)]
+#[derive(Clone, Copy)]
 pub struct Key {
     pub lo: u64,
     pub hi: u64,

@@ -1,5 +1,7 @@
 // The listing of raw words, as text: laid out on a page that has room for the longest one, and then handed over whole or not at all.
 // Each function that writes takes the place to write from and answers with the place behind what it wrote.
+#![tactic(auto)]
+
 ghost use Rattle.std.specs.Prelude.{◌≡◌, [], ◌∷◌, ◌++◌, map, ◌≤◌, ◌<◌, ◌+◌, ◌*◌, length, take, drop};
 ghost use Rattle.buffer.specs.Put.{Fits, Put};
 ghost use Rattle.reader.specs.Reading.{reading_of};
@@ -14,7 +16,7 @@ use page::{
 };
 use reader::{Reading, coarse_of, instruction_in};
 
-#[derive(Drop)]
+#[derive(Clone, Copy)]
 pub struct Listing;
 
 impl Listing {

@@ -1,5 +1,7 @@
 // A listing read back as words: for physicists who mend a sequence in a text editor.
 // Every line is judged before the first word is written, so that the buffer has all words or is as it was.
+#![tactic(auto)]
+
 ghost use Rattle.std.specs.Prelude.{◌≡◌, map, ◌<◌, length, drop};
 ghost use Rattle.instruction.specs.Bits.{pick};
 ghost use Rattle.buffer.specs.Put.{put};
@@ -15,7 +17,7 @@ use text::{find, same};
 pub mod line;
 
 // What is told of a text: 0 and how many words it has, or the number of a refusal and its line.
-#[derive(Drop)]
+#[derive(Clone, Copy)]
 pub struct ReadBack {
     pub number: u64,
     pub line: u64,

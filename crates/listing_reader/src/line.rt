@@ -37,7 +37,7 @@ pub fn field_count(row: u64) -> usize
 }
 
 // What a line is before the writer is asked: what is wrong with it, or the row of its name and where that starts.
-#[derive(Drop)]
+#[derive(Clone, Copy)]
 pub struct Shape {
     pub number: u64,
     pub row: u64,

@@ -1,5 +1,7 @@
 // The names of instructions: on a page, and whose a name is.
 // A name is a text of its own in each arm: measured, this is faster than a table that is put on the stack for every word.
+#![tactic(auto)]
+
 ghost use Rattle.std.specs.Prelude.{◌≡◌, ◌∷◌};
 ghost use Rattle.buffer.specs.Put.{Fits, Put};
 ghost use Rattle.text.specs.Cut.{tab, same_text};
@@ -10,7 +12,7 @@ use instruction::Body;
 use page::put_word;
 use text::same;
 
-#[derive(Drop)]
+#[derive(Clone, Copy)]
 pub struct Names;
 
 impl Names {

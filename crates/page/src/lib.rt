@@ -1,5 +1,7 @@
 // Text on a page: numbers in decimal, names, and the last numbers of a line.
 // Whoever writes lines has made room on the page before, so that no byte asks for it.
+#![tactic(auto)]
+
 ghost use Rattle.std.specs.Prelude.{◌≡◌, [], ◌∷◌, ◌%◌, ◌<◌, length};
 ghost use Rattle.buffer.specs.Put.{Fits, Put};
 ghost use Rattle.text.specs.Cut.{tab};

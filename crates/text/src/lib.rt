@@ -1,5 +1,7 @@
 // Text that people write, as bytes: where a line or a field ends, whether two texts are the same, and what a field says as a number.
 // A text is cut into lines at line feeds and a line into fields at tabs; what the fields mean is for its readers to say.
+#![tactic(auto)]
+
 ghost use Rattle.std.specs.Prelude.{◌≡◌, true, false, ◌≤◌, ◌<◌, ◌+◌, ◌*◌, ◌-◌, ltb, length, drop};
 ghost use Rattle.text.specs.Cut.{place_of, same_text, starts_with, half, stride};
 ghost use Rattle.text.specs.Number.{is_digit, numbers, counted, uncounted, counted_to, counted_then, counted_at, Led};
@@ -89,7 +91,7 @@ pub fn starts_with(text: &[u8], at: usize, name: &[u8]) -> bool
 }
 
 // A field from a place on: whether it is a number in plain decimal, which, and where it ends.
-#[derive(Drop)]
+#[derive(Clone, Copy)]
 pub struct Counted {
     pub plain: bool,
     pub value: u64,

@@ -1,5 +1,7 @@
 // A listing of edition 2 moved to edition 1: every word gets its address, and every label the address that it means.
 // Labels are collected, then every line is judged, and then all is written, so that the buffer has the whole text or is as it was.
+#![tactic(auto)]
+
 ghost use Rattle.std.specs.Prelude.{◌≡◌, true, ◌&&◌, [], ◌∷◌, ◌++◌, ◌≤◌, ◌<◌, ◌+◌, ltb, length};
 ghost use Rattle.buffer.specs.Put.{Fits, Put};
 ghost use Rattle.text.specs.Cut.{tab, line_feed, place_of, same_text};
@@ -17,7 +19,7 @@ use listing_reader::{ReadBack, header_end};
 use page::{digit_count, put_byte, put_end, put_number, put_text};
 use text::{find, same};
 
-#[derive(Drop)]
+#[derive(Clone, Copy)]
 pub struct Addresses;
 
 impl Addresses {
@@ -44,14 +46,14 @@ impl Addresses {
 }
 
 // How many labels and words were passed.
-#[derive(Drop)]
+#[derive(Clone, Copy)]
 struct Passed {
     labels: usize,
     words: usize,
 }
 
 // What a line defines: whether it is a word, and where the label starts that it defines; 0 is none.
-#[derive(Drop)]
+#[derive(Clone, Copy)]
 struct Defining {
     word: bool,
     from: usize,
@@ -159,7 +161,7 @@ fn collect(text: &[u8], from: usize, keys: &mut [u64]) -> Passed
 }
 
 // Where a label is defined first among those of the text, and the address that it means; their number and 0 where it is not.
-#[derive(Drop)]
+#[derive(Clone, Copy)]
 struct Found {
     first: usize,
     means: u64,
@@ -206,7 +208,7 @@ fn scan(text: &[u8], from: usize, name: &[u8]) -> Found
 
 // What is known of a text's labels: where its lines begin, whether the table is to be used, the first label that stood before if it is,
 // and how many labels and words there are.
-#[derive(Drop)]
+#[derive(Clone, Copy)]
 struct Known {
     from: usize,
     ready: bool,
@@ -260,7 +262,7 @@ fn label_number(text: &[u8], known: Known, past: Passed, name: &[u8]) -> u64
 
 // What is told of a line: whether it is a label line, what is wrong with it, and where nothing is the room that is left, where the line
 // stops or the label of a jump starts, and the address that this means.
-#[derive(Drop)]
+#[derive(Clone, Copy)]
 struct Weighed {
     number: u64,
     label: bool,
@@ -356,7 +358,7 @@ fn weigh(
 }
 
 // What is told of all lines: 0 and the room that they leave, or the number of the first bad one and its line.
-#[derive(Drop)]
+#[derive(Clone, Copy)]
 struct Judged {
     number: u64,
     line: u64,
@@ -461,7 +463,7 @@ fn put_jump(out: &mut [u8], at: usize, a: u64, front: &[u8], means: u64) -> usiz
 }
 
 // The place of the next line, where it is laid, and how many words were.
-#[derive(Drop)]
+#[derive(Clone, Copy)]
 struct Laid {
     at: usize,
     place: usize,

@@ -1,5 +1,7 @@
 // A listing of edition 1 moved to edition 2: every target gets a label, and no line an address.
 // Every line is judged before the first byte is written, so that the buffer has the whole text or is as it was.
+#![tactic(auto)]
+
 ghost use Rattle.std.specs.Prelude.{◌≡◌, [], ◌∷◌, ◌++◌, ◌+◌, ◌-◌, ◌≤◌, ◌<◌, length, drop};
 ghost use Rattle.instruction.specs.Bits.{pick};
 ghost use Rattle.buffer.specs.Put.{Fits, Put};
@@ -14,7 +16,7 @@ use listing_reader::{ReadBack, header_end};
 use page::{digit_count, put_byte, put_end, put_number, put_text};
 use text::find;
 
-#[derive(Drop)]
+#[derive(Clone, Copy)]
 pub struct Labels;
 
 impl Labels {
@@ -84,7 +86,7 @@ fn mark(marks: &mut [u8], base: u64, target: u64)
 
 // A line's parts, as places in the text: where its name starts, where its target does, and its end; a line that does not jump has its
 // target at its end.
-#[derive(Drop)]
+#[derive(Clone, Copy)]
 struct Parts {
     from: usize,
     last: usize,
@@ -126,7 +128,7 @@ fn keep_note(notes: &mut [u64], a: u64, parts: Parts)
 }
 
 // What is told of all lines: 0 and the room that they leave, or the number of the first bad one and its line.
-#[derive(Drop)]
+#[derive(Clone, Copy)]
 struct Judged {
     number: u64,
     line: u64,

@@ -1,5 +1,7 @@
 // What people type and hand over: numbers in decimal, and words as hexadecimal text or as raw bytes.
 // Every text has one answer: what it says, or what is wrong with it and where.
+#![tactic(auto)]
+
 ghost use Rattle.std.specs.Prelude.{◌≡◌, true, ◌+◌, ◌*◌, ◌-◌, ◌^◌, ◌<◌};
 ghost use Rattle.instruction.specs.Word.{word_bytes};
 ghost use Rattle.text.specs.Number.{between, is_digit};
@@ -17,7 +19,7 @@ fn between(first: u8, last: u8, b: u8) -> bool
 }
 
 // What a text says as a number.
-#[derive(Drop)]
+#[derive(Clone, Copy)]
 pub enum Amount {
     Is(u64),
     NoNumber,
@@ -68,7 +70,7 @@ pub fn number(text: &[u8], most: u32) -> Amount
 // ---- Words.
 
 // Words as hexadecimal text or raw, or numbers of a byte in decimal, each with a comma behind it.
-#[derive(Drop)]
+#[derive(Clone, Copy)]
 pub enum Spelling {
     Hex,
     Raw,
@@ -76,7 +78,7 @@ pub enum Spelling {
 }
 
 // Where a byte of a text stands; both are counted from 1.
-#[derive(Drop)]
+#[derive(Clone, Copy)]
 pub struct Place {
     pub line: u64,
     pub column: u64,
@@ -109,7 +111,7 @@ impl Place {
 }
 
 // What is known after some bytes: how many words there are, what there is of the next, and what is wrong.
-#[derive(Drop)]
+#[derive(Clone, Copy)]
 pub struct Taken {
     pub count: u64,
     pub value: u64,

@@ -1,0 +1,12 @@
+-- Judged, and then filled.
+use Rattle.listing_reader.proofs.Lines.{not_headed, reads_whole, reads_refused}
+use Rattle.listing_reader.proofs.read_listing.Goals as goal
+
+pub returns-then-from-eq0 : goal.returns-then-from-eq0
+returns-then-from-eq0 c = not_headed c.args.rules c.args.text.now c.args.words.now c.header_end-from.ensures c.if-from-eq0.true
+
+pub returns-then-told-eq0 : goal.returns-then-told-eq0
+returns-then-told-eq0 c = reads_whole c.args.rules c.args.text.now c.args.words.now c.header_end-from.ensures c.if-from-eq0.false c.judge-told.ensures c.if-told-eq0.true c.fill.ensures
+
+pub returns-else-told-eq0 : goal.returns-else-told-eq0
+returns-else-told-eq0 c = reads_refused c.args.rules c.args.text.now c.args.words.now c.header_end-from.ensures c.if-from-eq0.false c.judge-told.ensures c.if-told-eq0.false

@@ -1,0 +1,46 @@
+-- By the row: each has its name, and the rows past them are NOOP.
+use mathlib.Core.List.{[]}
+use Rattle.instruction.proofs.Laws.{body_past}
+use Rattle.names.proofs.is_name.Goals as goal
+
+pub returns-in-0 : goal.returns-in-0
+returns-in-0 c = rw c.in-0.is c.same.ensures
+
+pub returns-in-1 : goal.returns-in-1
+returns-in-1 c = rw c.in-1.is c.same-in-1.ensures
+
+pub returns-in-2 : goal.returns-in-2
+returns-in-2 c = rw c.in-2.is c.same-in-2.ensures
+
+pub returns-in-3 : goal.returns-in-3
+returns-in-3 c = rw c.in-3.is c.same-in-3.ensures
+
+pub returns-in-4 : goal.returns-in-4
+returns-in-4 c = rw c.in-4.is c.same-in-4.ensures
+
+pub returns-in-5 : goal.returns-in-5
+returns-in-5 c = rw c.in-5.is c.same-in-5.ensures
+
+pub returns-in-6 : goal.returns-in-6
+returns-in-6 c = rw c.in-6.is c.same-in-6.ensures
+
+pub returns-in-7 : goal.returns-in-7
+returns-in-7 c = rw c.in-7.is c.same-in-7.ensures
+
+pub returns-in-8 : goal.returns-in-8
+returns-in-8 c = rw c.in-8.is c.same-in-8.ensures
+
+pub returns-in-9 : goal.returns-in-9
+returns-in-9 c = rw c.in-9.is c.same-in-9.ensures
+
+pub returns-in-10 : goal.returns-in-10
+returns-in-10 c = rw c.in-10.is c.same-in-10.ensures
+
+pub returns-in-11 : goal.returns-in-11
+returns-in-11 c = rw c.in-11.is c.same-in-11.ensures
+
+pub returns-in-12 : goal.returns-in-12
+returns-in-12 c = rw c.in-12.is c.same-in-12.ensures
+
+pub returns-in_default : goal.returns-in_default
+returns-in_default c = rw (body_past [] c.in_default.in_default-own.rest) c.same-in_default.ensures
