@@ -1,5 +1,7 @@
 // The C interface: what `include/aps2.h` declares. Each function takes its buffers apart and calls the library.
 // Nothing is kept, nothing is allocated, and nothing is read past what is lent.
+#![tactic(auto)]
+
 ghost use Rattle.std.specs.Prelude.{◌≡◌, false, length};
 ghost use Rattle.reader.specs.Reading.{reading_of};
 ghost use Rattle.jumps.specs.State.{Fixed, fixed_in};
@@ -28,7 +30,7 @@ use verdict::check;
 use writer::{Written, write};
 
 // How many numbers C lends for the fields of an instruction, and for the answer of a run.
-#[derive(Drop)]
+#[derive(Clone, Copy)]
 pub struct Lent;
 
 impl Lent {
@@ -228,7 +230,7 @@ pub extern "C" fn aps2_run(
     budget: u64,
     answer: &mut [u64; Lent::ANSWER],
 ) -> u64
-    ensures { Ran (rehearse budget (fixed_in words.entry messages.entry trace.entry (record { wave = record { 0 = wave }; rules = rules_of firmware; triggers = triggers })))
+    ensures { Ran (rehearse budget (fixed_in words.now messages.now trace.old (record { wave = record { 0 = wave }; rules = rules_of firmware; triggers = triggers })))
         trace.old trace.new answer.new result }
 {
     let a = run(
@@ -278,7 +280,7 @@ pub extern "C" fn aps2_step(
     state: &mut [u64; Numbers::HELD],
     bit: &mut [u64; 1],
 ) -> u64
-    ensures { CallMade (called_on Pace.Single budget (fixed_in words.entry messages.entry trace.entry (record { wave = record { 0 = wave }; rules = rules_of firmware; triggers = triggers })) state.old)
+    ensures { CallMade (called_on Pace.Single budget (fixed_in words.now messages.now trace.old (record { wave = record { 0 = wave }; rules = rules_of firmware; triggers = triggers })) state.old)
         state.old trace.old trace.new state.new bit.new result }
 {
     if Numbers::CONDITIONS <= state[Numbers::CONDITION] {
@@ -305,7 +307,7 @@ pub extern "C" fn aps2_go_on(
     state: &mut [u64; Numbers::HELD],
     bit: &mut [u64; 1],
 ) -> u64
-    ensures { CallMade (called_on Pace.On budget (fixed_in words.entry messages.entry trace.entry (record { wave = record { 0 = wave }; rules = rules_of firmware; triggers = triggers })) state.old)
+    ensures { CallMade (called_on Pace.On budget (fixed_in words.now messages.now trace.old (record { wave = record { 0 = wave }; rules = rules_of firmware; triggers = triggers })) state.old)
         state.old trace.old trace.new state.new bit.new result }
 {
     if Numbers::CONDITIONS <= state[Numbers::CONDITION] {

@@ -26,7 +26,7 @@ use Rattle.jumps.specs.Jumps.{nexts, repeat_of, compares, acts, cleared, goto_of
 use Rattle.jumps.specs.declared.Condition.{Condition}
 use Rattle.jumps.specs.declared.Condition.TheVariants.{Absent, Fails, Holds}
 use Rattle.jumps.specs.declared.State.{State}
-use Rattle.machine.specs.Step.{sent, send_of, engine_word_of, any_above, sync_of, act_of, breaks_group, step_of}
+use Rattle.machine.specs.Step.{send_of, engine_word_of, any_above, sync_of, act_of, breaks_group, step_of}
 use Rattle.machine.proofs.Laws.{execute_acts, step_accepted}
 use Rattle.rehearsal.specs.Run.{then_did, run_of, rehearse}
 use Rattle.rehearsal.proofs.Runs.{rehearse_runs, refused_none}
