@@ -2,17 +2,18 @@
 // Nothing is kept between files but how many were accepted.
 use crate::answer::{say_bad_text, say_bad_text_by_name};
 use crate::space;
+use as_json::file;
 use files::input::{Found, words_of};
-use json::file;
 use report::words::{line_of, say_bit};
 use request::asked;
 use request::asked::Asked;
 use sequence::Sequence;
+use system::System;
 use told::{say, say_number};
 use verdict::Verdict;
 
 // How many files were accepted, refused, and had no answer.
-#[derive(Drop)]
+#[derive(Clone, Copy)]
 struct Tally {
     accepted: u64,
     refused: u64,
@@ -42,70 +43,70 @@ impl Tally {
         told::ACCEPTED
     }
 
-    fn say(self) {
-        say_number(self.accepted);
-        say(b" accepted, ");
-        say_number(self.refused);
-        say(b" refused");
+    fn say(self, system: System) {
+        say_number(system, self.accepted);
+        say(system, b" accepted, ");
+        say_number(system, self.refused);
+        say(system, b" refused");
         if self.missing != 0 {
-            say(b", ");
-            say_number(self.missing);
-            say(b" without an answer");
+            say(system, b", ");
+            say_number(system, self.missing);
+            say(system, b" without an answer");
         }
-        say(b"\n");
+        say(system, b"\n");
     }
 }
 
-fn say_name(argument: usize) {
+fn say_name(system: System, argument: usize) {
     let mut name = io::large_buffer();
-    let n = os::arg(argument, &mut name);
-    say(&name[..n]);
+    let n = system.name(argument, &mut name);
+    say(system, &name[..n]);
 }
 
-fn say_no_answer(asked: Asked, argument: usize) {
+fn say_no_answer(system: System, asked: Asked, argument: usize) {
     if asked.json {
-        file::begin(argument, told::NO_ANSWER);
-        file::end();
+        file::begin(system, argument, told::NO_ANSWER);
+        file::end(system);
         return;
     }
-    say_name(argument);
-    say(b": no answer\n");
+    say_name(system, argument);
+    say(system, b": no answer\n");
 }
 
-fn say_line(verdict: Verdict, lines: &[u64]) {
+fn say_line(system: System, verdict: Verdict, lines: &[u64]) {
     if lines.len() != 0 {
-        say(b", line ");
-        say_number(line_of(lines, verdict.place.0));
+        say(system, b", line ");
+        say_number(system, line_of(lines, verdict.place.0));
     }
 }
 
 // A text that is refused.
-fn say_refused_text(found: Found, asked: Asked, argument: usize) {
+fn say_refused_text(system: System, found: Found, asked: Asked, argument: usize) {
     if asked.json {
-        say_bad_text_by_name(found, argument);
+        say_bad_text_by_name(system, found, argument);
         return;
     }
-    say_name(argument);
-    say(b": ");
-    say_bad_text(found);
+    say_name(system, argument);
+    say(system, b": ");
+    say_bad_text(system, found);
 }
 
-fn say_verdict(n: u64, lines: &[u64], verdict: Verdict) {
+fn say_verdict(system: System, n: u64, lines: &[u64], verdict: Verdict) {
     if verdict.refusal.number == 0 {
-        say(b": accepted: ");
-        say_number(n);
-        say(b" words\n");
+        say(system, b": accepted: ");
+        say_number(system, n);
+        say(system, b" words\n");
         return;
     }
-    say(b": refused: ");
-    say_number(verdict.refusal.number);
+    say(system, b": refused: ");
+    say_number(system, verdict.refusal.number);
     if n != 0 {
-        say(b" at word ");
-        say_number(verdict.place.0);
-        say_bit(verdict.refusal);
-        say_line(verdict, lines);
+        say(system, b" at word ");
+        say_number(system, verdict.place.0);
+        say_bit(system, verdict.refusal);
+        say_line(system, verdict, lines);
     }
-    say(b"\n");
+    say(system, b"\n");
 }
 
 // The line of the word, 0 beside 0.
@@ -116,17 +117,17 @@ fn line_in(verdict: Verdict, lines: &[u64]) -> u64 {
     line_of(lines, verdict.place.0)
 }
 
-fn say_verdict_by_name(n: u64, lines: &[u64], asked: Asked, verdict: Verdict) {
-    file::say_member(b"number", verdict.refusal.number);
-    file::say_member(b"place", verdict.place.0);
-    file::say_member(b"bit", verdict.refusal.bit);
+fn say_verdict_by_name(system: System, n: u64, lines: &[u64], asked: Asked, verdict: Verdict) {
+    file::say_member(system, b"number", verdict.refusal.number);
+    file::say_member(system, b"place", verdict.place.0);
+    file::say_member(system, b"bit", verdict.refusal.bit);
     if lines.len() != 0 {
-        file::say_member(b"line", line_in(verdict, lines));
+        file::say_member(system, b"line", line_in(verdict, lines));
     }
-    file::say_member(b"words", n);
-    file::say_member(b"wave", asked.wave.0);
-    file::say_firmware(asked.rules);
-    file::end();
+    file::say_member(system, b"words", n);
+    file::say_member(system, b"wave", asked.wave.0);
+    file::say_firmware(system, asked.rules);
+    file::end(system);
 }
 
 fn status_of(number: u64) -> u64 {
@@ -137,27 +138,28 @@ fn status_of(number: u64) -> u64 {
     }
 }
 
-fn judge(words: &[u64], lines: &[u64], asked: Asked, argument: usize) -> u64 {
+fn judge(system: System, words: &[u64], lines: &[u64], asked: Asked, argument: usize) -> u64 {
     let mut marks = space::for_words();
     let verdict = verdict::check(words, asked.wave, asked.rules, &mut marks);
     let status = status_of(verdict.refusal.number);
     let n = words.len() as u64;
     if asked.json {
-        file::begin(argument, status);
-        say_verdict_by_name(n, lines, asked, verdict);
+        file::begin(system, argument, status);
+        say_verdict_by_name(system, n, lines, asked, verdict);
         return status;
     }
-    say_name(argument);
-    say_verdict(n, lines, verdict);
+    say_name(system, argument);
+    say_verdict(system, n, lines, verdict);
     status
 }
 
 // One file, and its exit status if it were alone.
-fn check_file(asked: Asked, argument: usize) -> u64 {
+fn check_file(system: System, asked: Asked, argument: usize) -> u64 {
     let mut words = space::for_words();
     let mut lines = space::for_lines();
     let mut line = io::buffer();
     let found = words_of(
+        system,
         argument,
         asked.hex,
         asked.rules,
@@ -169,37 +171,37 @@ fn check_file(asked: Asked, argument: usize) -> u64 {
     let n = found.count;
     let k = found.lines;
     if !found.good {
-        say_no_answer(asked, argument);
+        say_no_answer(system, asked, argument);
         return told::NO_ANSWER;
     }
     if found.number != 0 {
-        say_refused_text(found, asked, argument);
+        say_refused_text(system, found, asked, argument);
         return told::REFUSED;
     }
     if n <= Sequence::WORDS as usize {
         if k <= lines.len() {
-            return judge(&words[..n], &lines[..k], asked, argument);
+            return judge(system, &words[..n], &lines[..k], asked, argument);
         }
     }
     told::NO_ANSWER
 }
 
-pub fn check(asked: Asked) {
+pub fn check(system: System, asked: Asked) {
     let mut tally = Tally {
         accepted: 0,
         refused: 0,
         missing: 0,
     };
-    let n = os::arg_count();
+    let n = system.argument_count();
     let mut i: usize = 2;
     while i < n {
-        if asked::is_file(i) {
-            tally = tally.with(check_file(asked, i));
+        if asked::is_file(system, i) {
+            tally = tally.with(check_file(system, asked, i));
         }
         i += 1;
     }
     if asked.several & !asked.json {
-        tally.say();
+        tally.say(system);
     }
     told::ends(tally.status(), 0);
 }

@@ -4,6 +4,7 @@ use crate::space;
 use files::messages::messages_of;
 use lesson::course::{Course, teach};
 use request::asked::Asked;
+use system::System;
 use told::{say, say_number};
 
 fn course_of(asked: Asked, messages: usize) -> Course {
@@ -18,20 +19,28 @@ fn course_of(asked: Asked, messages: usize) -> Course {
     )
 }
 
-fn teaches(words: &[u64], lines: &[u64], messages: &mut [u8], trace: &mut [u64], course: Course) {
-    let number = teach(words, lines, messages, trace, course);
+fn teaches(
+    system: System,
+    words: &[u64],
+    lines: &[u64],
+    messages: &mut [u8],
+    trace: &mut [u64],
+    course: Course,
+) {
+    let number = teach(system, words, lines, messages, trace, course);
     if number == 0 {
         told::ends(told::ACCEPTED, 0);
         return;
     }
-    say(b"refused: ");
-    say_number(number);
-    say(b"\n");
+    say(system, b"refused: ");
+    say_number(system, number);
+    say(system, b"\n");
     told::ends(told::REFUSED, number);
 }
 
 // With as much room as is asked for.
 fn teaches_in_room(
+    system: System,
     words: &[u64],
     lines: &[u64],
     messages: &mut [u8],
@@ -42,6 +51,7 @@ fn teaches_in_room(
     let room = asked.room as usize;
     if room <= trace.len() {
         teaches(
+            system,
             words,
             lines,
             messages,
@@ -51,14 +61,22 @@ fn teaches_in_room(
     }
 }
 
-pub fn step(words: &[u64], lines: &[u64], asked: Asked) {
+pub fn step(system: System, words: &[u64], lines: &[u64], asked: Asked) {
     let mut messages = io::large_buffer();
     let mut numbers = space::for_words();
-    let heard = messages_of(asked.messages, &mut numbers, &mut messages);
+    let heard = messages_of(system, asked.messages, &mut numbers, &mut messages);
     if !heard.good {
         told::ends(told::NO_ANSWER, 0);
         return;
     }
     let mut trace = space::for_trace();
-    teaches_in_room(words, lines, &mut messages, &mut trace, asked, heard.count);
+    teaches_in_room(
+        system,
+        words,
+        lines,
+        &mut messages,
+        &mut trace,
+        asked,
+        heard.count,
+    );
 }

@@ -9,11 +9,12 @@ use crate::texts::{complain_of_length, refused_at};
 use crate::whole::{Kept, text_of};
 use editions::Moved;
 use instruction::Rules;
+use system::System;
 use to_addresses::to_addresses;
 use to_labels::to_labels;
 
 // What is moved: the listing of words, or the text that an argument names; and which edition it gets.
-#[derive(Drop)]
+#[derive(Clone, Copy)]
 pub enum Way {
     Listed(Rules),
     ToLabels,
@@ -57,7 +58,7 @@ fn lay_listing(words: &[u64], rules: Rules, text: &mut [u8]) -> usize
     lay_words(words, rules, text, start)
 }
 
-fn text_for(way: Way, argument: usize, words: &[u64], text: &mut [u8]) -> Kept
+fn text_for(system: System, way: Way, argument: usize, words: &[u64], text: &mut [u8]) -> Kept
     ensures { result.count ≤ length text.new }
 {
     match way {
@@ -66,10 +67,10 @@ fn text_for(way: Way, argument: usize, words: &[u64], text: &mut [u8]) -> Kept
             Kept {
                 count,
                 more: false,
-                failed: false,
+                failure: None,
             }
         }
-        _ => text_of(argument, text),
+        _ => text_of(system, argument, text),
     }
 }
 
@@ -91,6 +92,7 @@ fn moved_in(text: &[u8], way: Way, out: &mut [u8], line: &mut [u8]) -> Found {
 
 // The same of what is to be moved.
 pub fn moved_of(
+    system: System,
     way: Way,
     argument: usize,
     words: &[u64],
@@ -98,12 +100,12 @@ pub fn moved_of(
     line: &mut [u8],
 ) -> Found {
     let mut text = room::for_text();
-    let kept = text_for(way, argument, words, &mut text);
-    if kept.failed {
+    let kept = text_for(system, way, argument, words, &mut text);
+    if kept.failure.is_some() {
         return Found::nothing();
     }
     if kept.more {
-        complain_of_length(argument, 0, true);
+        complain_of_length(system, argument, 0, true);
         return Found::nothing();
     }
     if kept.count <= Text::ROOM {

@@ -1,64 +1,64 @@
 // Where an answer goes that has a file of its own: raw words, as a trace or what a listing says, or a text.
 // It is written beside its place, under its name and `.part`, and takes its place when it is whole.
+use std::fs::File;
+use std::io::{Result, Write};
+use system::System;
 use told::complaint::complain_of_file;
 use typed::raw;
 
-fn write_words(fd: i32, words: &[u64]) -> bool {
+fn write_words(file: &mut File, words: &[u64]) -> Result<()> {
     let mut i: usize = 0;
     while i < words.len() {
         let bytes = raw(words[i]);
-        if !io::write_all(fd, &bytes) {
-            return false;
-        }
+        file.write_all(&bytes)?;
         i += 1;
     }
-    true
+    Ok(())
 }
 
-// Words, and then a text; one of the two is empty.
-fn write_both(fd: i32, words: &[u64], text: &[u8]) -> bool {
-    write_words(fd, words) && io::write_all(fd, text)
+// Words, and then a text; one of the two is empty. They are there only where the system says so at the end.
+fn write_both(file: &mut File, words: &[u64], text: &[u8]) -> Result<()> {
+    write_words(file, words)?;
+    file.write_all(text)?;
+    file.sync_all()
 }
 
 // Fills the new file, and tells whether all is in it.
-fn fill(fd: i32, part: &[u8], words: &[u64], text: &[u8]) -> bool {
-    let is_written = write_both(fd, words, text);
-    if !is_written {
-        complain_of_file(part);
-        libc::close(fd);
-        return false;
+fn fill(system: System, mut file: File, part: &[u8], words: &[u64], text: &[u8]) -> bool {
+    match write_both(&mut file, words, text) {
+        Ok(()) => true,
+        Err(error) => {
+            complain_of_file(system, part, error);
+            false
+        }
     }
-    let closed = libc::close(fd);
-    if closed != 0 {
-        complain_of_file(part);
-        return false;
-    }
-    true
 }
 
-fn take_place(part: &[u8], path: &[u8]) -> bool {
-    let renamed = os::rename(part, path);
-    if renamed != 0 {
-        complain_of_file(path);
-        return false;
+fn take_place(system: System, part: &[u8], path: &[u8]) -> bool {
+    match system::rename(system, part, path) {
+        Ok(()) => true,
+        Err(error) => {
+            complain_of_file(system, path, error);
+            false
+        }
     }
-    true
 }
 
 // A file that is not whole, or cannot take its place, goes away again.
-fn write_to(path: &[u8], part: &[u8], words: &[u64], text: &[u8]) -> bool {
-    let fd = os::create(part);
-    if fd < 0 {
-        complain_of_file(part);
-        return false;
-    }
-    if fill(fd, part, words, text) {
-        if take_place(part, path) {
-            return true;
+fn write_to(system: System, path: &[u8], part: &[u8], words: &[u64], text: &[u8]) -> bool {
+    match system::create(system, part) {
+        Ok(file) => {
+            if fill(system, file, part, words, text) && take_place(system, part, path) {
+                return true;
+            }
+            let _ = system::remove(system, part);
+            false
+        }
+        Err(error) => {
+            complain_of_file(system, part, error);
+            false
         }
     }
-    os::unlink(part);
-    false
 }
 
 // Puts `.part` behind the first bytes of a name; the system takes no name so long that it does not fit.
@@ -78,23 +78,23 @@ fn named_part(name: &mut [u8], n: usize) -> usize {
 }
 
 // Writes to the file that an argument names, and tells whether all is there.
-fn save(argument: usize, words: &[u64], text: &[u8]) -> bool {
+fn save(system: System, argument: usize, words: &[u64], text: &[u8]) -> bool {
     let mut name = io::large_buffer();
-    let n = os::arg(argument, &mut name);
+    let n = system.name(argument, &mut name);
     let mut part = io::large_buffer();
-    os::arg(argument, &mut part);
+    system.name(argument, &mut part);
     let k = named_part(&mut part, n);
     if part.len() < k {
         return false;
     }
-    write_to(&name[..n], &part[..k], words, text)
+    write_to(system, &name[..n], &part[..k], words, text)
 }
 
-pub fn save_words(argument: usize, words: &[u64]) -> bool {
-    save(argument, words, b"")
+pub fn save_words(system: System, argument: usize, words: &[u64]) -> bool {
+    save(system, argument, words, b"")
 }
 
-pub fn save_text(argument: usize, text: &[u8]) -> bool {
+pub fn save_text(system: System, argument: usize, text: &[u8]) -> bool {
     let none: [u64; 0] = [];
-    save(argument, &none, text)
+    save(system, argument, &none, text)
 }

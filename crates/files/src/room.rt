@@ -5,7 +5,7 @@ ghost use Rattle.files.specs.Room.{text_room, listing_room};
 
 use sequence::Sequence;
 
-#[derive(Drop)]
+#[derive(Clone, Copy)]
 pub struct Text;
 
 impl Text {

@@ -10,12 +10,13 @@ use instruction::{QuadSamples, Rules};
 use listing::Listing;
 use listing_reader::{ReadBack, header_end, read_listing};
 use sequence::Sequence;
+use system::System;
 use text::find;
 use to_addresses::to_addresses;
 use told::complaint::{complain, complain_number};
 
 // What a text is: a listing, read for a module, or a block, for a waveform memory.
-#[derive(Drop)]
+#[derive(Clone, Copy)]
 pub enum Written {
     Listing(Rules),
     Block(QuadSamples),
@@ -33,7 +34,7 @@ impl Written {
 
 // What is told of a text: 0 and how many words it has, or the number of a refusal and its line, 0 for none; and how many lines are told of
 // the words, none but for a listing.
-#[derive(Drop)]
+#[derive(Clone, Copy)]
 struct Read {
     number: u64,
     line: u64,
@@ -52,17 +53,17 @@ impl Read {
     }
 }
 
-pub fn complain_of_length(argument: usize, line: u64, listing: bool) {
-    complain(b"aps2: ");
-    complain_by_name(argument);
+pub fn complain_of_length(system: System, argument: usize, line: u64, listing: bool) {
+    complain(system, b"aps2: ");
+    complain_by_name(system, argument);
     if line != 0 {
-        complain(b", line ");
-        complain_number(line);
+        complain(system, b", line ");
+        complain_number(system, line);
     }
     if listing {
-        complain(b": longer than a whole listing can be\n");
+        complain(system, b": longer than a whole listing can be\n");
     } else {
-        complain(b": longer than a whole block can be\n");
+        complain(system, b": longer than a whole block can be\n");
     }
 }
 
@@ -160,6 +161,7 @@ fn read_as(text: &[u8], written: Written, words: &mut [u64], lines: &mut [u64]) 
 // What can be told of a text that goes on past what is kept: what is wrong with an earlier line, but of a listing of edition 2 nothing, since
 // its labels may be defined in what is missing.
 fn found_in_part(
+    system: System,
     text: &[u8],
     written: Written,
     read: Read,
@@ -168,17 +170,18 @@ fn found_in_part(
 ) -> Found {
     let listing = written.is_listing();
     if (read.number == 0) | (listing & is_labelled(text)) {
-        complain_of_length(argument, 0, listing);
+        complain_of_length(system, argument, 0, listing);
         return Found::nothing();
     }
     if goes_on(text, read.line) {
-        complain_of_length(argument, read.line, listing);
+        complain_of_length(system, argument, read.line, listing);
         return Found::nothing();
     }
     refused_at(text, read.number, read.line, line)
 }
 
 fn found_in(
+    system: System,
     text: &[u8],
     written: Written,
     more: bool,
@@ -189,7 +192,7 @@ fn found_in(
 ) -> Found {
     let read = read_as(text, written, words, lines);
     if more {
-        return found_in_part(text, written, read, argument, line);
+        return found_in_part(system, text, written, read, argument, line);
     }
     if read.number != 0 {
         return refused_at(text, read.number, read.line, line);
@@ -202,6 +205,7 @@ fn found_in(
 // The words of the text that an argument names, and the lines that they stand in where it is a listing; of one that is refused, the line is
 // laid at the start of what is lent.
 pub fn words_in_text(
+    system: System,
     argument: usize,
     written: Written,
     words: &mut [u64],
@@ -209,12 +213,13 @@ pub fn words_in_text(
     line: &mut [u8],
 ) -> Found {
     let mut text = room::for_text();
-    let kept = whole::text_of(argument, &mut text);
-    if kept.failed {
+    let kept = whole::text_of(system, argument, &mut text);
+    if kept.failure.is_some() {
         return Found::nothing();
     }
     if kept.count <= Text::ROOM {
         return found_in(
+            system,
             &text[..kept.count],
             written,
             kept.more,

@@ -3,7 +3,7 @@
 ghost use Rattle.std.specs.Prelude.{◌≤◌, length};
 
 use instruction::Instruction;
-use libc::STDIN_FILENO;
+use system::System;
 use told::say;
 
 const END: u64 = 256;
@@ -11,19 +11,19 @@ const END: u64 = 256;
 const LINE_FEED: u64 = 10;
 
 // How many bytes the line has that were kept, and whether the input has ended before it.
-#[derive(Drop)]
+#[derive(Clone, Copy)]
 pub struct Heard {
     pub count: usize,
     pub ended: bool,
 }
 
-fn next_byte() -> u64 {
-    let mut one = io::buffer();
-    let got = libc::read(STDIN_FILENO, &mut one[..1]);
-    if got <= 0 {
-        return END;
+fn next_byte(system: System) -> u64 {
+    let mut one = [0u8; 1];
+    match system.read(&mut one) {
+        Ok(0) => END,
+        Ok(_) => Instruction::wide(one[0]),
+        Err(_) => END,
     }
-    Instruction::wide(one[0])
 }
 
 // What is past the end of what is lent is passed over.
@@ -38,40 +38,40 @@ fn keep(line: &mut [u8], at: usize, byte: u64) -> usize
 }
 
 // A proved loop has to end, and nothing says that an input does; so it counts its turns down from a number that no lesson uses up.
-fn line_of(line: &mut [u8]) -> Heard
+fn line_of(system: System, line: &mut [u8]) -> Heard
     ensures { result.count ≤ length line.new }
 {
     let mut count: usize = 0;
-    let mut byte = next_byte();
+    let mut byte = next_byte(system);
     let mut turns = u64::MAX;
     let ended = byte == END;
     while turns > 0 && byte != END && byte != LINE_FEED {
         count = keep(line, count, byte);
-        byte = next_byte();
+        byte = next_byte(system);
         turns -= 1;
     }
     Heard { count, ended }
 }
 
 // A line that does not come from a keyboard is said again, so that what is answered stands below it.
-fn echo(line: &[u8]) {
-    if libc::isatty(STDIN_FILENO) == 0 {
-        say(line);
-        say(b"\n");
+fn echo(system: System, line: &[u8]) {
+    if !system.is_keyboard() {
+        say(system, line);
+        say(system, b"\n");
     }
 }
 
 // The next line, asked for.
-pub fn hear(line: &mut [u8]) -> Heard
+pub fn hear(system: System, line: &mut [u8]) -> Heard
     ensures { result.count ≤ length line.new }
 {
-    say(b"> ");
-    let heard = line_of(line);
+    say(system, b"> ");
+    let heard = line_of(system, line);
     let n = heard.count;
     if heard.ended {
-        say(b"\n");
+        say(system, b"\n");
     } else {
-        echo(&line[..n]);
+        echo(system, &line[..n]);
     }
     heard
 }

@@ -5,7 +5,7 @@ ghost use Rattle.std.specs.Prelude.{◌≤◌, length};
 use text::same;
 use typed::{Amount, number};
 
-#[derive(Drop)]
+#[derive(Clone, Copy)]
 pub enum Wish {
     Steps(u64),
     Go,

@@ -4,25 +4,26 @@ use crate::state::{say_condition, say_engine, say_entry};
 use dispatch::Engines;
 use jumps::{Condition, Core, State};
 use sequence::Sequence;
+use system::System;
 use told::{say, say_number};
 
-fn say_from_to(before: u64, after: u64) {
-    say(b"\t");
-    say_number(before);
-    say(b" -> ");
-    say_number(after);
-    say(b"\n");
+fn say_from_to(system: System, before: u64, after: u64) {
+    say(system, b"\t");
+    say_number(system, before);
+    say(system, b" -> ");
+    say_number(system, after);
+    say(system, b"\n");
 }
 
-fn say_change(name: &[u8], before: u64, after: u64) {
+fn say_change(system: System, name: &[u8], before: u64, after: u64) {
     if before != after {
-        say(name);
-        say_from_to(before, after);
+        say(system, name);
+        say_from_to(system, before, after);
     }
 }
 
-pub fn say_steps(before: u64, after: u64) {
-    say_change(b"steps", before, after);
+pub fn say_steps(system: System, before: u64, after: u64) {
+    say_change(system, b"steps", before, after);
 }
 
 fn rank(condition: Condition) -> u64 {
@@ -33,29 +34,29 @@ fn rank(condition: Condition) -> u64 {
     }
 }
 
-fn say_core_changes(before: Core, after: Core) {
-    say_change(b"\tmessages used", before.used, after.used);
-    say_change(b"\ttrace length", before.sent, after.sent);
-    say_change(b"\trepeat counter", before.counter, after.counter);
-    say_change(b"\tregister", before.register, after.register);
-    say_change(b"\theld", before.held, after.held);
-    say_change(b"\tstack depth", before.depth, after.depth);
+fn say_core_changes(system: System, before: Core, after: Core) {
+    say_change(system, b"\tmessages used", before.used, after.used);
+    say_change(system, b"\ttrace length", before.sent, after.sent);
+    say_change(system, b"\trepeat counter", before.counter, after.counter);
+    say_change(system, b"\tregister", before.register, after.register);
+    say_change(system, b"\theld", before.held, after.held);
+    say_change(system, b"\tstack depth", before.depth, after.depth);
     let was = before.condition;
     let is = after.condition;
     if rank(was) != rank(is) {
-        say(b"\t");
-        say_condition(is);
+        say(system, b"\t");
+        say_condition(system, is);
     }
 }
 
 // The entry that is on top of the stack, where there is one more than before.
-fn say_pushed(before: u64, after: State) {
+fn say_pushed(system: System, before: u64, after: State) {
     let depth = before as usize;
     let returns = after.returns;
     let counters = after.counters;
     if before < after.core.depth {
         if before < Sequence::STACK {
-            say_entry(before, returns[depth], counters[depth]);
+            say_entry(system, before, returns[depth], counters[depth]);
         }
     }
 }
@@ -72,40 +73,50 @@ fn alike(counts: [u64; Engines::COUNT]) -> bool {
     true
 }
 
-fn say_each(name: &[u8], before: [u64; Engines::COUNT], after: [u64; Engines::COUNT]) {
+fn say_each(
+    system: System,
+    name: &[u8],
+    before: [u64; Engines::COUNT],
+    after: [u64; Engines::COUNT],
+) {
     let mut i: usize = 0;
     while i < Engines::COUNT {
         if before[i] != after[i] {
-            say(b"\t");
-            say(name);
-            say(b", ");
-            say_engine(i);
-            say_from_to(before[i], after[i]);
+            say(system, b"\t");
+            say(system, name);
+            say(system, b", ");
+            say_engine(system, i);
+            say_from_to(system, before[i], after[i]);
         }
         i += 1;
     }
 }
 
-fn say_counts(name: &[u8], before: [u64; Engines::COUNT], after: [u64; Engines::COUNT]) {
+fn say_counts(
+    system: System,
+    name: &[u8],
+    before: [u64; Engines::COUNT],
+    after: [u64; Engines::COUNT],
+) {
     if alike(before) & alike(after) & (before[0] != after[0]) {
-        say(b"\t");
-        say(name);
-        say(b", all");
-        say_from_to(before[0], after[0]);
+        say(system, b"\t");
+        say(system, name);
+        say(system, b", all");
+        say_from_to(system, before[0], after[0]);
         return;
     }
-    say_each(name, before, after);
+    say_each(system, name, before, after);
 }
 
-pub fn say_changes(before: State, after: State) {
+pub fn say_changes(system: System, before: State, after: State) {
     let was = before.core;
     let is = after.core;
-    say_core_changes(was, is);
-    say_pushed(was.depth, after);
+    say_core_changes(system, was, is);
+    say_pushed(system, was.depth, after);
     let waits = before.waits;
     let waits_now = after.waits;
     let totals = before.totals;
     let totals_now = after.totals;
-    say_counts(b"trigger waits", waits, waits_now);
-    say_counts(b"quad-samples", totals, totals_now);
+    say_counts(system, b"trigger waits", waits, waits_now);
+    say_counts(system, b"quad-samples", totals, totals_now);
 }

@@ -2,6 +2,7 @@
 use instruction::Refusal;
 use rehearsal::Answer;
 use sequence::Sequence;
+use system::System;
 use told::{say, say_number};
 
 // Input, or a word; the numbers that tell a bit stand above all others.
@@ -9,15 +10,15 @@ fn is_refused(end: Refusal) -> bool {
     (end.number < Sequence::PAST_THE_END) | end.tells_bit()
 }
 
-pub fn say_end(end: Refusal) {
+pub fn say_end(system: System, end: Refusal) {
     if is_refused(end) {
-        say(b"refused: ");
+        say(system, b"refused: ");
     } else if end.number < Answer::BUDGET_SPENT {
-        say(b"faulted: ");
+        say(system, b"faulted: ");
     } else {
-        say(b"ended: ");
+        say(system, b"ended: ");
     }
-    say_number(end.number);
+    say_number(system, end.number);
 }
 
 pub fn status_of(end: Refusal) -> u64 {

@@ -1,5 +1,7 @@
 // What a person is told: words as lines of the listing, how a run ended, all that it left, by name, and what a step changed.
 // The answer goes to standard output.
+#![tactic(auto)]
+
 pub mod changes;
 pub mod end;
 pub mod state;

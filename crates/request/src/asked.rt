@@ -3,6 +3,7 @@ ghost use Rattle.std.specs.Prelude.{◌<◌};
 
 use instruction::{QuadSamples, Rules};
 use sequence::Sequence;
+use system::System;
 use text::same;
 use told::complaint::{complain, complain_number};
 use typed::{Amount, number};
@@ -47,7 +48,7 @@ const LABELLED: u64 = 11;
 
 // An option that waits for its value is `pending`. A file is told by its place among the arguments; 0 is none. Of several, `file`
 // is the first.
-#[derive(Drop)]
+#[derive(Clone, Copy)]
 pub struct Asked {
     pub command: u64,
     pub pending: u64,
@@ -152,16 +153,16 @@ fn option_named(text: &[u8]) -> u64 {
     counted_option(text)
 }
 
-fn complain_of_option(option: u64) {
+fn complain_of_option(system: System, option: u64) {
     match option {
-        WAVE => complain(b"aps2: --wave"),
-        TRIGGERS => complain(b"aps2: --triggers"),
-        MESSAGES => complain(b"aps2: --messages"),
-        BUDGET => complain(b"aps2: --budget"),
-        ROOM => complain(b"aps2: --room"),
-        OUT => complain(b"aps2: --out"),
-        FIRMWARE => complain(b"aps2: --firmware"),
-        _ => complain(b"aps2: --trace"),
+        WAVE => complain(system, b"aps2: --wave"),
+        TRIGGERS => complain(system, b"aps2: --triggers"),
+        MESSAGES => complain(system, b"aps2: --messages"),
+        BUDGET => complain(system, b"aps2: --budget"),
+        ROOM => complain(system, b"aps2: --room"),
+        OUT => complain(system, b"aps2: --out"),
+        FIRMWARE => complain(system, b"aps2: --firmware"),
+        _ => complain(system, b"aps2: --trace"),
     }
 }
 
@@ -217,11 +218,11 @@ fn is_option(text: &[u8]) -> bool {
     text[0] == b'-'
 }
 
-fn complain_of_value(option: u64, text: &[u8], why: &[u8]) {
-    complain_of_option(option);
-    complain(b" ");
-    complain(text);
-    complain(why);
+fn complain_of_value(system: System, option: u64, text: &[u8], why: &[u8]) {
+    complain_of_option(system, option);
+    complain(system, b" ");
+    complain(system, text);
+    complain(system, why);
 }
 
 impl Asked {
@@ -258,39 +259,40 @@ impl Asked {
         self
     }
 
-    fn with_one_more(self, text: &[u8]) -> Asked {
-        complain(b"aps2: one file at a time, and ");
-        complain(text);
-        complain(b" is one more; check takes several\n");
+    fn with_one_more(self, system: System, text: &[u8]) -> Asked {
+        complain(system, b"aps2: one file at a time, and ");
+        complain(system, text);
+        complain(system, b" is one more; check takes several\n");
         self.bad()
     }
 
     // A word that is no option and no value: a file. The check takes several.
-    fn with_file(mut self, text: &[u8], i: usize) -> Asked {
+    fn with_file(mut self, system: System, text: &[u8], i: usize) -> Asked {
         if self.file == 0 {
             self.file = i;
             return self;
         }
         if self.command != CHECK {
-            return self.with_one_more(text);
+            return self.with_one_more(system, text);
         }
         self.several = true;
         self
     }
 
-    fn without_option(self, text: &[u8]) -> Asked {
-        complain(b"aps2: ");
-        complain(text);
+    fn without_option(self, system: System, text: &[u8]) -> Asked {
+        complain(system, b"aps2: ");
+        complain(system, text);
         complain(
+            system,
             b" is no option of this command; --help after the command tells which there are\n",
         );
         self.bad()
     }
 
-    fn with_option(mut self, text: &[u8]) -> Asked {
+    fn with_option(mut self, system: System, text: &[u8]) -> Asked {
         let option = option_named(text);
         if !has_option(self.command, option) {
-            return self.without_option(text);
+            return self.without_option(system, text);
         }
         if is_alone(option) {
             self.hex = self.hex | (option == HEX);
@@ -321,24 +323,29 @@ impl Asked {
     }
 
     // The number after an option.
-    fn counted(self, option: u64, text: &[u8], most: u32) -> Asked {
+    fn counted(self, system: System, option: u64, text: &[u8], most: u32) -> Asked {
         match number(text, most) {
             Amount::Is(n) => self.with_number(option, n),
             Amount::NoNumber => {
-                complain_of_value(option, text, b" is no number; write it in decimal digits\n");
+                complain_of_value(
+                    system,
+                    option,
+                    text,
+                    b" is no number; write it in decimal digits\n",
+                );
                 self.bad()
             }
             Amount::TooLarge => {
-                complain_of_value(option, text, b" is too large: ");
-                complain_number(most as u64);
-                complain(b" is the most\n");
+                complain_of_value(system, option, text, b" is too large: ");
+                complain_number(system, most as u64);
+                complain(system, b" is the most\n");
                 self.bad()
             }
         }
     }
 
     // The firmware after its option.
-    fn with_firmware(mut self, text: &[u8]) -> Asked {
+    fn with_firmware(mut self, system: System, text: &[u8]) -> Asked {
         if same(text, b"older") {
             let older = Rules::OLDER;
             self.rules = older;
@@ -350,6 +357,7 @@ impl Asked {
             return self;
         }
         complain_of_value(
+            system,
             FIRMWARE,
             text,
             b" is neither older nor current; firmware 2.5 to 2.33 is older\n",
@@ -358,7 +366,7 @@ impl Asked {
     }
 
     // The value after an option.
-    fn with_value(mut self, text: &[u8], i: usize) -> Asked {
+    fn with_value(mut self, system: System, text: &[u8], i: usize) -> Asked {
         let option = self.pending;
         self.pending = 0;
         if option == MESSAGES {
@@ -374,80 +382,90 @@ impl Asked {
             return self;
         }
         if option == FIRMWARE {
-            return self.with_firmware(text);
+            return self.with_firmware(system, text);
         }
-        self.counted(option, text, most_of(option))
+        self.counted(system, option, text, most_of(option))
     }
 
-    fn with_argument(self, text: &[u8], i: usize) -> Asked {
+    fn with_argument(self, system: System, text: &[u8], i: usize) -> Asked {
         if !self.good {
             return self;
         }
         if self.pending != 0 {
-            return self.with_value(text, i);
+            return self.with_value(system, text, i);
         }
         if is_option(text) {
-            return self.with_option(text);
+            return self.with_option(system, text);
         }
-        self.with_file(text, i)
+        self.with_file(system, text, i)
     }
 
-    fn without_value(self) -> Asked {
-        complain_of_option(self.pending);
-        complain(b" needs a value after it\n");
+    fn without_value(self, system: System) -> Asked {
+        complain_of_option(system, self.pending);
+        complain(system, b" needs a value after it\n");
         self.bad()
     }
 
-    fn without_file(self) -> Asked {
-        complain(b"aps2: which file? A name, or - for standard input\n");
-        self.bad()
-    }
-
-    fn without_input(self) -> Asked {
+    fn without_file(self, system: System) -> Asked {
         complain(
+            system,
+            b"aps2: which file? A name, or - for standard input\n",
+        );
+        self.bad()
+    }
+
+    fn without_input(self, system: System) -> Asked {
+        complain(
+            system,
             b"aps2: a lesson is heard from standard input, so its words must come from a file\n",
         );
         self.bad()
     }
 
-    fn without_wave(self) -> Asked {
-        complain(b"aps2: how long is the waveform memory? --wave and a number of quad-samples\n");
+    fn without_wave(self, system: System) -> Asked {
+        complain(
+            system,
+            b"aps2: how long is the waveform memory? --wave and a number of quad-samples\n",
+        );
         self.bad()
     }
 
-    fn without_either(self) -> Asked {
-        complain(b"aps2: --labels or --json, not both: JSON tells the addresses of jumps\n");
+    fn without_either(self, system: System) -> Asked {
+        complain(
+            system,
+            b"aps2: --labels or --json, not both: JSON tells the addresses of jumps\n",
+        );
         self.bad()
     }
 
     // What is still missing, or too much, when there are no more arguments.
-    fn whole(self) -> Asked {
+    fn whole(self, system: System) -> Asked {
         if !self.good {
             return self;
         }
         if self.pending != 0 {
-            return self.without_value();
+            return self.without_value(system);
         }
         if self.file == 0 {
-            return self.without_file();
+            return self.without_file(system);
         }
         if needs_wave(self.command) & !self.has_wave {
-            return self.without_wave();
+            return self.without_wave(system);
         }
-        if (self.command == STEP) & is_input(self.file) {
-            return self.without_input();
+        if (self.command == STEP) & is_input(system, self.file) {
+            return self.without_input(system);
         }
         if self.labelled & self.json {
-            return self.without_either();
+            return self.without_either(system);
         }
         self
     }
 }
 
 // Whether an argument names standard input.
-fn is_input(argument: usize) -> bool {
+fn is_input(system: System, argument: usize) -> bool {
     let mut text = io::large_buffer();
-    let n = os::arg(argument, &mut text);
+    let n = system.name(argument, &mut text);
     same(&text[..n], b"-")
 }
 
@@ -460,48 +478,50 @@ fn most_of(option: u64) -> u32 {
     }
 }
 
-fn take_argument(asked: Asked, i: usize) -> Asked {
+fn take_argument(system: System, asked: Asked, i: usize) -> Asked {
     let mut text = io::large_buffer();
-    let n = os::arg(i, &mut text);
-    if os::errno() != 0 {
-        complain(b"aps2: an argument is too long\n");
+    let Some(n) = system.argument(i, &mut text) else {
+        complain(system, b"aps2: an argument is too long\n");
         return asked.bad();
-    }
-    asked.with_argument(&text[..n], i)
+    };
+    asked.with_argument(system, &text[..n], i)
 }
 
 // Whether the argument at i is a file, where all were understood: no option, and not the value of the one before it.
-pub fn is_file(i: usize) -> bool
+pub fn is_file(system: System, i: usize) -> bool
     requires { 0 < i }
 {
     let mut before = io::large_buffer();
-    let k = os::arg(i - 1, &mut before);
+    let k = system.name(i - 1, &mut before);
     let option = option_named(&before[..k]);
     let mut text = io::large_buffer();
-    let n = os::arg(i, &mut text);
+    let n = system.name(i, &mut text);
     !is_option(&text[..n]) & ((option == 0) | is_alone(option))
 }
 
 // All arguments after the command.
-fn after(command: u64) -> Asked {
+fn after(system: System, command: u64) -> Asked {
     let mut asked = Asked::of(command);
-    let n = os::arg_count();
+    let n = system.argument_count();
     let mut i: usize = 2;
     while i < n {
-        asked = take_argument(asked, i);
+        asked = take_argument(system, asked, i);
         i += 1;
     }
-    asked.whole()
+    asked.whole(system)
 }
 
 // All that is asked for.
-pub fn read() -> Asked {
+pub fn read(system: System) -> Asked {
     let mut name = [0u8; 16];
-    let n = os::arg(1, &mut name);
+    let n = system.name(1, &mut name);
     let command = command_named(&name[..n]);
     if command == 0 {
-        complain(b"aps2: no such command; ./aps2 --help tells which there are\n");
+        complain(
+            system,
+            b"aps2: no such command; ./aps2 --help tells which there are\n",
+        );
         return Asked::of(0).bad();
     }
-    after(command)
+    after(system, command)
 }

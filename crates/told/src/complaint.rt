@@ -1,17 +1,21 @@
 // Why there is no answer, on standard error.
 // Each sentence begins with the name of the command, so that it stands apart where others write there too.
-use libc::STDERR_FILENO;
+use std::io::Error;
+use system::System;
 
-pub fn complain(text: &[u8]) {
-    io::write_all(STDERR_FILENO, text);
+pub fn complain(system: System, text: &[u8]) {
+    system.complain(text);
 }
 
-pub fn complain_number(n: u64) {
-    io::print_decimal(STDERR_FILENO, n);
+pub fn complain_number(system: System, n: u64) {
+    system.complain_number(n);
 }
 
 // What the system says of a file that cannot be opened, read or written.
-pub fn complain_of_file(path: &[u8]) {
-    complain(b"aps2: ");
-    os::fail(path);
+pub fn complain_of_file(system: System, path: &[u8], error: Error) {
+    complain(system, b"aps2: ");
+    complain(system, path);
+    complain(system, b": ");
+    system.complain_of(error);
+    complain(system, b"\n");
 }

@@ -1,6 +1,8 @@
 // What a program tells: on standard output the answer and, on descriptor 3, for the script that started the program,
 // the exit status and the number that it is about.
-use libc::STDOUT_FILENO;
+#![tactic(auto)]
+
+use system::System;
 
 pub mod complaint;
 
@@ -10,7 +12,8 @@ pub const REFUSED: u64 = 1;
 
 pub const NO_ANSWER: u64 = 2;
 
-// Where the script listens.
+// Where the script listens. `std` writes to no descriptor by its number, and what stands behind this one, as a socket, cannot always be
+// opened by a name.
 const SCRIPT_FILENO: i32 = 3;
 
 // The status comes after the last line of the answer: a program that does not come to its end tells none.
@@ -21,18 +24,18 @@ pub fn ends(status: u64, number: u64) {
     io::write_all(SCRIPT_FILENO, b"\n");
 }
 
-pub fn say(text: &[u8]) {
-    io::write_all(STDOUT_FILENO, text);
+pub fn say(system: System, text: &[u8]) {
+    system.say(text);
 }
 
-pub fn say_number(n: u64) {
-    io::print_decimal(STDOUT_FILENO, n);
+pub fn say_number(system: System, n: u64) {
+    system.say_number(n);
 }
 
 // A line of a name and a number.
-pub fn say_pair(name: &[u8], n: u64) {
-    say(name);
-    say(b"\t");
-    say_number(n);
-    say(b"\n");
+pub fn say_pair(system: System, name: &[u8], n: u64) {
+    say(system, name);
+    say(system, b"\t");
+    say_number(system, n);
+    say(system, b"\n");
 }
