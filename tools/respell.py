@@ -4,7 +4,7 @@
 usage: python3 tools/respell.py [TOP]   rewrites specs/, proofs/ and the clauses of src/ below TOP/crates in place, once, right after port.py
 
 Words of comments and strings stay, names in backticks aside. Names of Rattle's own making (goals, steps) are no declarations of the repository and stay.
-It stops where two names would fall together, or where a parameter or a bound variable would hide a renamed word.
+It stops where two names would fall together.
 """
 
 import os
