@@ -1,247 +1,226 @@
 // The answers: the listing; the verdict with the word that it is about; how a run ended, and all that it left; the words of a listing or
-// block; a listing moved. Each comes as text for a person or as an object for a script, and its exit status last.
+// block; a listing moved. Each comes as text for a person or as an object for a script.
+use crate::ending::Ending;
 use crate::space;
-use as_json::{file, state as by_name};
-use files::input::Found;
+use as_json::file;
+use as_json::file::Firmware;
+use as_json::words::{Digits, Words};
 use files::messages::messages_of;
-use files::out::{save_text, save_words};
+use files::out;
+use files::out::save;
+use files::room::front;
+use files::trouble::BadText;
 use instruction::{QuadSamples, Rules};
 use rehearsal::Answer;
-use report::end::{say_end, status_of};
-use report::state::say_state;
-use report::words::{line_of, say_hexadecimal, say_listing, say_place, say_trace, say_typed};
-use request::asked::Asked;
+use report::end::End;
+use report::source::Source;
+use report::state::Left;
+use report::words::{Hexadecimal, Place, Trace, Typed, WholeListing};
+use request::asked::{Asked, Options};
+use std::fmt;
 use system::System;
-use told::{say, say_number};
-use verdict::Verdict;
+use told::{Said, Status};
 
-pub fn list(system: System, words: &[u64], asked: Asked) {
-    if asked.json {
-        file::begin(system, asked.file, told::ACCEPTED);
-        file::say_firmware(system, asked.rules);
-        file::say_key(system, b"listing");
-        as_json::words::say_words(system, words, asked.rules);
-        file::end(system);
-    } else {
-        say_listing(system, words, asked.rules);
-    }
-    told::ends(told::ACCEPTED, 0);
+// What is asked of the words that were read.
+#[derive(Clone, Copy)]
+pub struct Question<'a> {
+    pub system: System,
+    pub source: Source<'a>,
+    pub asked: Asked,
 }
 
-fn say_accepted(system: System, n: usize, wave: QuadSamples, rules: Rules) {
-    say(system, b"accepted: ");
-    say_number(system, n as u64);
-    say(system, b" words, ");
-    say_number(system, wave.0);
-    say(system, b" quad-samples of waveform memory");
-    let firmware = rules.firmware;
-    if firmware.is_older() {
-        say(system, b", older firmware");
-    }
-    say(system, b"\n");
-}
-
-fn say_refused(system: System, words: &[u64], lines: &[u64], verdict: Verdict, rules: Rules) {
-    say(system, b"refused: ");
-    say_number(system, verdict.refusal.number);
-    say_place(system, words, lines, verdict.refusal, verdict.place, rules);
-}
-
-pub fn check(system: System, words: &[u64], lines: &[u64], wave: QuadSamples, rules: Rules) {
-    let mut marks = space::for_words();
-    let verdict = verdict::check(words, wave, rules, &mut marks);
-    let number = verdict.refusal.number;
-    if number == 0 {
-        say_accepted(system, words.len(), wave, rules);
-        told::ends(told::ACCEPTED, 0);
-        return;
-    }
-    say_refused(system, words, lines, verdict, rules);
-    told::ends(told::REFUSED, number);
-}
-
-fn say_run(
-    system: System,
-    words: &[u64],
-    lines: &[u64],
-    trace: &[u64],
-    answer: Answer,
+// Words that were accepted.
+#[derive(Clone, Copy)]
+struct Accepted {
+    words: usize,
+    wave: QuadSamples,
     rules: Rules,
-) {
-    say_end(system, answer.end);
-    say_place(
-        system,
-        words,
-        lines,
-        answer.end,
-        answer.state.core.address,
-        rules,
-    );
-    let state = answer.state;
-    say_state(system, state);
-    say_trace(system, trace, rules);
 }
 
-fn say_run_by_name(
-    system: System,
-    words: &[u64],
-    lines: &[u64],
-    trace: &[u64],
-    answer: Answer,
-    asked: Asked,
-) {
-    file::begin(system, asked.file, status_of(answer.end));
-    file::say_member(system, b"end", answer.end.number);
-    file::say_member(system, b"bit", answer.end.bit);
-    if lines.len() != 0 {
-        file::say_member(system, b"line", line_of(lines, answer.state.core.address.0));
-    }
-    file::say_member(system, b"words", words.len() as u64);
-    file::say_member(system, b"wave", asked.wave.0);
-    file::say_firmware(system, asked.rules);
-    let state = answer.state;
-    by_name::say_state(system, state);
-    file::say_key(system, b"trace");
-    as_json::words::say_trace(system, trace);
-    file::end(system);
-}
-
-// What a run is told that has come to its end. The trace goes to its file first, so that there is no answer without it.
-fn tell(system: System, words: &[u64], lines: &[u64], trace: &[u64], answer: Answer, asked: Asked) {
-    let status = status_of(answer.end);
-    if asked.trace != 0 && !save_words(system, asked.trace, trace) {
-        told::ends(told::NO_ANSWER, 0);
-        return;
-    }
-    if asked.json {
-        say_run_by_name(system, words, lines, trace, answer, asked);
-        told::ends(status, 0);
-        return;
-    }
-    say_run(system, words, lines, trace, answer, asked.rules);
-    told::ends(status, answer.end.number);
-}
-
-fn rehearse(
-    system: System,
-    words: &[u64],
-    lines: &[u64],
-    messages: &[u8],
-    trace: &mut [u64],
-    asked: Asked,
-) {
-    let answer = rehearsal::run(
-        words,
-        asked.wave,
-        asked.rules,
-        messages,
-        (asked.triggers & 0xffff_ffff) as u32,
-        trace,
-        asked.budget,
-    );
-    let sent = answer.state.core.sent as usize;
-    if sent <= trace.len() {
-        tell(system, words, lines, &trace[..sent], answer, asked);
+impl fmt::Display for Accepted {
+    fn fmt<W: fmt::Write>(&self, f: &mut fmt::Formatter<W>) -> fmt::Result {
+        let firmware = self.rules.firmware;
+        let older = if firmware.is_older() {
+            ", older firmware"
+        } else {
+            ""
+        };
+        let Accepted { words, wave, .. } = self;
+        let wave = wave.0;
+        write!(
+            f,
+            "accepted: {words} words, {wave} quad-samples of waveform memory{older}"
+        )
     }
 }
 
-// With as much room as is asked for.
-fn rehearse_in_room(
-    system: System,
-    words: &[u64],
-    lines: &[u64],
-    messages: &[u8],
-    trace: &mut [u64],
-    asked: Asked,
-) {
-    let room = asked.room as usize;
-    if room <= trace.len() {
-        rehearse(system, words, lines, messages, &mut trace[..room], asked);
+impl Question<'_> {
+    pub fn list(self) -> Ending {
+        let Options { json, rules, .. } = self.asked.options;
+        let words = self.source.words;
+        if json {
+            file::begin(self.system, self.asked.file, Status::Accepted);
+            let firmware = Firmware(rules);
+            let listing = Words { words, rules };
+            print!(self.system; r#","firmware":{firmware},"listing":{listing}"#);
+            file::end(self.system);
+        } else {
+            print!(self.system; "{}", WholeListing { words, rules });
+        }
+        Ending::ACCEPTED
     }
-}
 
-pub fn run(system: System, words: &[u64], lines: &[u64], asked: Asked) {
-    let mut messages = io::large_buffer();
-    let mut numbers = space::for_words();
-    let heard = messages_of(system, asked.messages, &mut numbers, &mut messages);
-    let n = heard.count;
-    if !heard.good {
-        told::ends(told::NO_ANSWER, 0);
-        return;
+    pub fn check(self) -> Ending {
+        let Asked { wave, options, .. } = self.asked;
+        let rules = options.rules;
+        let words = self.source.words;
+        let mut marks = space::for_words();
+        let verdict = verdict::check(words, wave, rules, &mut marks);
+        let number = verdict.refusal.number;
+        if number == 0 {
+            let words = words.len();
+            println!(self.system; "{}", Accepted { words, wave, rules });
+            return Ending::ACCEPTED;
+        }
+        let place = Place {
+            source: self.source,
+            refusal: verdict.refusal,
+            place: verdict.place,
+            rules,
+        };
+        print!(self.system; "refused: {number}{place}");
+        Ending::refused(number)
     }
-    if n <= messages.len() {
-        let mut trace = space::for_trace();
-        rehearse_in_room(system, words, lines, &messages[..n], &mut trace, asked);
-    }
-}
 
-// The words of a listing or block: as text, or raw into a file.
-pub fn words(system: System, words: &[u64], asked: Asked) {
-    if asked.out == 0 {
-        say_hexadecimal(system, words);
-        told::ends(told::ACCEPTED, 0);
-        return;
+    fn say_run(self, answer: Answer, trace: &[u64]) {
+        let rules = self.asked.options.rules;
+        let place = Place {
+            source: self.source,
+            refusal: answer.end,
+            place: answer.state.core.address,
+            rules,
+        };
+        let trace = Trace {
+            words: trace,
+            rules,
+        };
+        print!(self.system; "{}{place}{}{trace}", End(answer.end), Left(&answer.state));
     }
-    if !save_words(system, asked.out, words) {
-        told::ends(told::NO_ANSWER, 0);
-        return;
+
+    fn say_run_by_name(self, answer: Answer, trace: &[u64]) {
+        let system = self.system;
+        let Asked { wave, options, .. } = self.asked;
+        let words = self.source.words.len();
+        file::begin(system, self.asked.file, End(answer.end).status());
+        print!(system; r#","end":{},"bit":{}"#, answer.end.number, answer.end.bit);
+        if let Some(line) = self.source.line_of(answer.state.core.address) {
+            print!(system; r#","line":{line}"#);
+        }
+        let firmware = Firmware(options.rules);
+        let left = as_json::state::Left(&answer.state);
+        print!(system;
+            r#","words":{words},"wave":{},"firmware":{firmware}{left},"trace":{}"#,
+            wave.0,
+            Digits(trace)
+        );
+        file::end(system);
     }
-    say_number(system, words.len() as u64);
-    say(system, b" words\n");
-    told::ends(told::ACCEPTED, 0);
+
+    // What a run is told that has come to its end. The trace goes to its file first, so that there is no answer without it.
+    fn tell(self, answer: Answer, trace: &[u64]) -> Result<Ending, Said> {
+        let status = End(answer.end).status();
+        if let Some(argument) = self.asked.options.trace {
+            save(self.system, argument, out::Answer::Words(trace))?;
+        }
+        if self.asked.options.json {
+            self.say_run_by_name(answer, trace);
+            return Ok(Ending::of(status));
+        }
+        self.say_run(answer, trace);
+        Ok(Ending {
+            status,
+            number: answer.end.number,
+        })
+    }
+
+    // A rehearsal with these messages, and as much room as is asked for.
+    #[inline(never)]
+    fn rehearse(self, messages: &[u8]) -> Result<Ending, Said> {
+        let Options {
+            rules,
+            triggers,
+            budget,
+            room,
+            ..
+        } = self.asked.options;
+        let mut space = space::for_trace();
+        let room = space.len().min(room);
+        let trace = &mut space[..room];
+        let words = self.source.words;
+        let wave = self.asked.wave;
+        let answer = rehearsal::run(words, wave, rules, messages, triggers, trace, budget);
+        self.tell(answer, front(trace, answer.state.core.sent))
+    }
+
+    pub fn run(self) -> Result<Ending, Said> {
+        let mut messages = io::large_buffer();
+        let mut numbers = space::for_words();
+        let told = self.asked.options.messages;
+        let n = messages_of(self.system, told, &mut numbers, &mut messages)?;
+        self.rehearse(&messages[..n])
+    }
+
+    // The words of a listing or block: as text, or raw into a file.
+    pub fn words(self) -> Result<Ending, Said> {
+        let words = self.source.words;
+        match self.asked.options.out {
+            None => print!(self.system; "{}", Hexadecimal(words)),
+            Some(argument) => {
+                save(self.system, argument, out::Answer::Words(words))?;
+                println!(self.system; "{} words", words.len());
+            }
+        }
+        Ok(Ending::ACCEPTED)
+    }
 }
 
 // A listing that was moved: as it is, or into a file.
-pub fn text(system: System, text: &[u8], asked: Asked) {
-    if asked.out == 0 {
-        say(system, text);
-        told::ends(told::ACCEPTED, 0);
-        return;
+pub fn text(system: System, text: &[u8], out: Option<usize>) -> Result<Ending, Said> {
+    match out {
+        None => system.print_bytes(text),
+        Some(argument) => {
+            save(system, argument, out::Answer::Text(text))?;
+            println!(system; "{} bytes", text.len());
+        }
     }
-    if !save_text(system, asked.out, text) {
-        told::ends(told::NO_ANSWER, 0);
-        return;
-    }
-    say_number(system, text.len() as u64);
-    say(system, b" bytes\n");
-    told::ends(told::ACCEPTED, 0);
+    Ok(Ending::ACCEPTED)
 }
 
 // A text that is refused: its number, and the line where it has one.
-pub fn say_bad_text(system: System, found: Found) {
-    say(system, b"refused: ");
-    say_number(system, found.number);
-    if found.line != 0 {
-        say(system, b" at line ");
-        say_number(system, found.line);
+pub fn say_bad_text(system: System, bad: BadText<'_>) {
+    match bad.line {
+        None => println!(system; "refused: {}", bad.number),
+        Some(line) => println!(system; "refused: {} at line {line}", bad.number),
     }
-    say(system, b"\n");
 }
 
 // The same by name, for the file that an argument names.
-pub fn say_bad_text_by_name(system: System, found: Found, argument: usize) {
-    file::begin(system, argument, told::REFUSED);
-    file::say_member(system, b"number", found.number);
-    file::say_member(system, b"line", found.line);
+pub fn say_bad_text_by_name(system: System, bad: BadText<'_>, argument: usize) {
+    file::begin(system, argument, Status::Refused);
+    let line = bad.line.unwrap_or(0);
+    print!(system; r#","number":{},"line":{line}"#, bad.number);
     file::end(system);
 }
 
-fn say_shown(system: System, line: &[u8], shown: usize) {
-    if shown <= line.len() {
-        say_typed(system, &line[..shown]);
+// And what stands in that line.
+pub fn refused_text(system: System, bad: BadText<'_>, asked: Asked) -> Ending {
+    if asked.options.json {
+        say_bad_text_by_name(system, bad, asked.file);
+        return Ending::of(Status::Refused);
     }
-}
-
-// And what stands in that line, laid at the start of what is lent.
-pub fn refused_text(system: System, found: Found, line: &[u8], asked: Asked) {
-    if asked.json {
-        say_bad_text_by_name(system, found, asked.file);
-        told::ends(told::REFUSED, 0);
-        return;
+    say_bad_text(system, bad);
+    if bad.line.is_some() {
+        print!(system; "{}", Typed(bad.shown));
     }
-    say_bad_text(system, found);
-    if found.line != 0 {
-        say_shown(system, line, found.shown);
-    }
-    told::ends(told::REFUSED, found.number);
+    Ending::refused(bad.number)
 }

@@ -3,114 +3,96 @@
 #![tactic(auto)]
 
 mod answer;
+mod ending;
 mod moving;
 mod several;
 mod space;
 mod stepping;
 
-use files::input::{Found, words_of};
+use answer::Question;
+use ending::Ending;
+use files::input::words_of;
 use files::moves::Way;
-use files::texts::{Written, words_in_text};
+use files::texts::{Rooms, Written, words_in_text};
+use files::trouble::Trouble;
+use report::source::Source;
 use request::asked;
-use request::asked::Asked;
-use sequence::Sequence;
+use request::asked::{Asked, Options};
+use request::command::Command;
 use system::System;
+use told::{Said, Status};
 
-fn give(system: System, words: &[u64], lines: &[u64], asked: Asked) {
-    let command = asked.command;
-    match command {
-        asked::LIST => answer::list(system, words, asked),
-        asked::CHECK => answer::check(system, words, lines, asked.wave, asked.rules),
-        asked::WORDS => answer::words(system, words, asked),
-        asked::BLOCK => answer::words(system, words, asked),
-        asked::STEP => stepping::step(system, words, lines, asked),
-        _ => answer::run(system, words, lines, asked),
-    }
-}
-
-// The list with labels is a listing moved.
-fn give_either(system: System, words: &[u64], lines: &[u64], asked: Asked) {
-    let rules = asked.rules;
-    if asked.labelled {
-        moving::serve(system, Way::Listed(rules), words, asked);
-    } else {
-        give(system, words, lines, asked);
+// What `words` reads is a listing, and what `block` reads a block, whatever its name.
+fn find<'a>(system: System, asked: Asked, rooms: Rooms<'a>) -> Result<Source<'a>, Trouble<'a>> {
+    let Options { hex, rules, .. } = asked.options;
+    let Asked { file, wave, .. } = asked;
+    match asked.command {
+        Command::Words => words_in_text(system, file, Written::Listing(rules), rooms),
+        Command::Block => words_in_text(system, file, Written::Block(wave), rooms),
+        _ => words_of(system, file, hex, rules, wave, rooms),
     }
 }
 
 fn without_words(system: System, asked: Asked) {
-    if asked.json {
-        as_json::file::begin(system, asked.file, told::NO_ANSWER);
+    if asked.options.json {
+        as_json::file::begin(system, asked.file, Status::NoAnswer);
         as_json::file::end(system);
     }
-    told::ends(told::NO_ANSWER, 0);
 }
 
-// What `words` reads is a listing, and what `block` reads a block, whatever its name.
-fn find(
+// The words of the file are read, and then answered for.
+#[inline(never)]
+fn with_words<F: FnOnce(Question<'_>) -> Result<Ending, Said>>(
     system: System,
     asked: Asked,
-    words: &mut [u64],
-    lines: &mut [u64],
-    line: &mut [u8],
-) -> Found {
-    let rules = asked.rules;
-    let wave = asked.wave;
-    if asked.command == asked::WORDS {
-        return words_in_text(
-            system,
-            asked.file,
-            Written::Listing(rules),
-            words,
-            lines,
-            line,
-        );
-    }
-    if asked.command == asked::BLOCK {
-        return words_in_text(system, asked.file, Written::Block(wave), words, lines, line);
-    }
-    words_of(
-        system, asked.file, asked.hex, rules, wave, words, lines, line,
-    )
-}
-
-fn serve(system: System, asked: Asked) {
+    answer: F,
+) -> Result<Ending, Said>
+    requires { F.IsAlwaysCallable answer }
+{
     let mut words = space::for_words();
     let mut lines = space::for_lines();
     let mut line = io::buffer();
-    let found = find(system, asked, &mut words, &mut lines, &mut line);
-    let n = found.count;
-    let k = found.lines;
-    if !found.good {
-        without_words(system, asked);
-        return;
-    }
-    if found.number != 0 {
-        answer::refused_text(system, found, &line, asked);
-        return;
-    }
-    if n <= Sequence::WORDS as usize {
-        if k <= lines.len() {
-            give_either(system, &words[..n], &lines[..k], asked);
+    let rooms = Rooms {
+        words: &mut words,
+        lines: &mut lines,
+        line: &mut line,
+    };
+    match find(system, asked, rooms) {
+        Ok(source) => answer(Question {
+            system,
+            source,
+            asked,
+        }),
+        Err(Trouble::Refused(bad)) => Ok(answer::refused_text(system, bad, asked)),
+        Err(Trouble::Said) => {
+            without_words(system, asked);
+            Err(Said)
         }
+    }
+}
+
+fn serve(system: System, asked: Asked) -> Result<Ending, Said> {
+    let Options { json, labelled, .. } = asked.options;
+    match asked.command {
+        Command::List if labelled => with_words(system, asked, |question| {
+            moving::list(system, question.source.words, asked)
+        }),
+        Command::List => with_words(system, asked, |question| Ok(question.list())),
+        Command::Check if asked.several || json => Ok(several::check(system, asked)),
+        Command::Check => with_words(system, asked, |question| Ok(question.check())),
+        Command::Run => with_words(system, asked, |question| question.run()),
+        Command::Step => with_words(system, asked, stepping::step),
+        Command::Words | Command::Block => with_words(system, asked, |question| question.words()),
+        Command::Labels => moving::serve(system, Way::ToLabels, asked),
+        Command::Addresses => moving::serve(system, Way::ToAddresses, asked),
     }
 }
 
 fn main(rt: HostRuntime) {
     let system = System::of(rt);
-    let asked = asked::read(system);
-    if !asked.good {
-        told::ends(told::NO_ANSWER, 0);
-        return;
-    }
-    if (asked.command == asked::CHECK) & (asked.several | asked.json) {
-        several::check(system, asked);
-        return;
-    }
-    let command = asked.command;
-    match command {
-        asked::LABELS => moving::serve_file(system, Way::ToLabels, asked),
-        asked::ADDRESSES => moving::serve_file(system, Way::ToAddresses, asked),
-        _ => serve(system, asked),
-    }
+    let ending = match asked::read(system) {
+        Some(asked) => serve(system, asked).unwrap_or_else(Ending::from),
+        None => Ending::from(Said),
+    };
+    ending.tell();
 }

@@ -1,36 +1,42 @@
 // A listing moved from one edition to the other: that of a file, or of words that were read.
 // What is refused is told as everywhere, with its line.
 use crate::answer::{refused_text, text};
-use files::input::Found;
-use files::moves::{Way, moved_of};
+use crate::ending::Ending;
+use files::moves::{Rooms, Way, labelled, moved_of};
 use files::room;
+use files::trouble::Trouble;
 use request::asked::Asked;
 use system::System;
+use told::Said;
 
-fn tell(system: System, found: Found, moved: &[u8], line: &[u8], asked: Asked) {
-    let size = found.count;
-    if !found.good {
-        told::ends(told::NO_ANSWER, 0);
-        return;
-    }
-    if found.number != 0 {
-        refused_text(system, found, line, asked);
-        return;
-    }
-    if size <= moved.len() {
-        text(system, &moved[..size], asked);
+fn tell(system: System, moved: Result<&[u8], Trouble<'_>>, asked: Asked) -> Result<Ending, Said> {
+    match moved {
+        Ok(moved) => text(system, moved, asked.options.out),
+        Err(Trouble::Refused(bad)) => Ok(refused_text(system, bad, asked)),
+        Err(Trouble::Said) => Err(Said),
     }
 }
 
-pub fn serve(system: System, way: Way, words: &[u64], asked: Asked) {
-    let mut moved = room::for_listing();
+// The list with labels is a listing moved.
+#[inline(never)]
+pub fn list(system: System, words: &[u64], asked: Asked) -> Result<Ending, Said> {
+    let mut text = room::for_listing();
     let mut line = io::buffer();
-    let found = moved_of(system, way, asked.file, words, &mut moved, &mut line);
-    tell(system, found, &moved, &line, asked);
+    let rooms = Rooms {
+        text: &mut text,
+        line: &mut line,
+    };
+    tell(system, labelled(words, asked.options.rules, rooms), asked)
 }
 
 // The file that is asked for.
-pub fn serve_file(system: System, way: Way, asked: Asked) {
-    let none: [u64; 0] = [];
-    serve(system, way, &none, asked);
+#[inline(never)]
+pub fn serve(system: System, way: Way, asked: Asked) -> Result<Ending, Said> {
+    let mut text = room::for_listing();
+    let mut line = io::buffer();
+    let rooms = Rooms {
+        text: &mut text,
+        line: &mut line,
+    };
+    tell(system, moved_of(system, asked.file, way, rooms), asked)
 }

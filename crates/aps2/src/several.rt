@@ -1,15 +1,19 @@
 // The check of several files, and of any number of them as JSON: a line for each, whatever became of those before it.
 // Nothing is kept between files but how many were accepted.
-use crate::answer::{say_bad_text, say_bad_text_by_name};
+use crate::answer::{Question, say_bad_text, say_bad_text_by_name};
+use crate::ending::Ending;
 use crate::space;
 use as_json::file;
-use files::input::{Found, words_of};
-use report::words::{line_of, say_bit};
+use as_json::file::Firmware;
+use files::input::words_of;
+use files::texts::Rooms;
+use files::trouble::{BadText, Trouble};
+use report::words::Bit;
 use request::asked;
-use request::asked::Asked;
-use sequence::Sequence;
+use request::asked::{Asked, Options};
+use std::fmt;
 use system::System;
-use told::{say, say_number};
+use told::Status;
 use verdict::Verdict;
 
 // How many files were accepted, refused, and had no answer.
@@ -21,187 +25,180 @@ struct Tally {
 }
 
 impl Tally {
-    fn with(mut self, status: u64) -> Tally {
-        if status == told::ACCEPTED {
-            self.accepted = std::num::wrapping_add_u64(self.accepted, 1);
-        } else if status == told::REFUSED {
-            self.refused = std::num::wrapping_add_u64(self.refused, 1);
+    fn count(&mut self, status: Status) {
+        match status {
+            Status::Accepted => self.accepted = self.accepted.wrapping_add(1),
+            Status::Refused => self.refused = self.refused.wrapping_add(1),
+            Status::NoAnswer => self.missing = self.missing.wrapping_add(1),
+        }
+    }
+
+    // Accepted only where all were.
+    fn status(self) -> Status {
+        if self.missing != 0 {
+            Status::NoAnswer
+        } else if self.refused != 0 {
+            Status::Refused
         } else {
-            self.missing = std::num::wrapping_add_u64(self.missing, 1);
+            Status::Accepted
         }
-        self
-    }
-
-    // 0 only where all were accepted.
-    fn status(self) -> u64 {
-        if self.missing != 0 {
-            return told::NO_ANSWER;
-        }
-        if self.refused != 0 {
-            return told::REFUSED;
-        }
-        told::ACCEPTED
-    }
-
-    fn say(self, system: System) {
-        say_number(system, self.accepted);
-        say(system, b" accepted, ");
-        say_number(system, self.refused);
-        say(system, b" refused");
-        if self.missing != 0 {
-            say(system, b", ");
-            say_number(system, self.missing);
-            say(system, b" without an answer");
-        }
-        say(system, b"\n");
     }
 }
 
-fn say_name(system: System, argument: usize) {
-    let mut name = io::large_buffer();
-    let n = system.name(argument, &mut name);
-    say(system, &name[..n]);
+impl fmt::Display for Tally {
+    fn fmt<W: fmt::Write>(&self, f: &mut fmt::Formatter<W>) -> fmt::Result {
+        let Tally {
+            accepted,
+            refused,
+            missing,
+        } = *self;
+        write!(f, "{accepted} accepted, {refused} refused")?;
+        if missing != 0 {
+            write!(f, ", {missing} without an answer")?;
+        }
+        Ok(())
+    }
 }
 
-fn say_no_answer(system: System, asked: Asked, argument: usize) {
-    if asked.json {
-        file::begin(system, argument, told::NO_ANSWER);
+// The name of the file, as it was given.
+fn say_name(system: System, asked: Asked) {
+    let mut buffer = io::large_buffer();
+    system.print_bytes(system.name(asked.file, &mut buffer));
+}
+
+fn say_no_answer(system: System, asked: Asked) {
+    if asked.options.json {
+        file::begin(system, asked.file, Status::NoAnswer);
         file::end(system);
         return;
     }
-    say_name(system, argument);
-    say(system, b": no answer\n");
-}
-
-fn say_line(system: System, verdict: Verdict, lines: &[u64]) {
-    if lines.len() != 0 {
-        say(system, b", line ");
-        say_number(system, line_of(lines, verdict.place.0));
-    }
+    say_name(system, asked);
+    println!(system; ": no answer");
 }
 
 // A text that is refused.
-fn say_refused_text(system: System, found: Found, asked: Asked, argument: usize) {
-    if asked.json {
-        say_bad_text_by_name(system, found, argument);
+fn say_refused_text(system: System, bad: BadText<'_>, asked: Asked) {
+    if asked.options.json {
+        say_bad_text_by_name(system, bad, asked.file);
         return;
     }
-    say_name(system, argument);
-    say(system, b": ");
-    say_bad_text(system, found);
+    say_name(system, asked);
+    print!(system; ": ");
+    say_bad_text(system, bad);
 }
 
-fn say_verdict(system: System, n: u64, lines: &[u64], verdict: Verdict) {
-    if verdict.refusal.number == 0 {
-        say(system, b": accepted: ");
-        say_number(system, n);
-        say(system, b" words\n");
+fn say_verdict(question: Question<'_>, verdict: Verdict) {
+    let Question { system, source, .. } = question;
+    let number = verdict.refusal.number;
+    let n = source.words.len();
+    if number == 0 {
+        println!(system; ": accepted: {n} words");
         return;
     }
-    say(system, b": refused: ");
-    say_number(system, verdict.refusal.number);
+    print!(system; ": refused: {number}");
     if n != 0 {
-        say(system, b" at word ");
-        say_number(system, verdict.place.0);
-        say_bit(system, verdict.refusal);
-        say_line(system, verdict, lines);
+        print!(system; " at word {}{}", verdict.place.0, Bit(verdict.refusal));
+        if let Some(line) = source.line_of(verdict.place) {
+            print!(system; ", line {line}");
+        }
     }
-    say(system, b"\n");
+    println!(system);
 }
 
-// The line of the word, 0 beside 0.
-fn line_in(verdict: Verdict, lines: &[u64]) -> u64 {
-    if verdict.refusal.number == 0 {
-        return 0;
+// The line is that of the word, 0 beside 0.
+fn say_verdict_by_name(question: Question<'_>, verdict: Verdict) {
+    let Question {
+        system,
+        source,
+        asked,
+    } = question;
+    let number = verdict.refusal.number;
+    let place = verdict.place.0;
+    let bit = verdict.refusal.bit;
+    print!(system; r#","number":{number},"place":{place},"bit":{bit}"#);
+    if let Some(line) = source.line_of(verdict.place) {
+        let line = if number == 0 { 0 } else { line };
+        print!(system; r#","line":{line}"#);
     }
-    line_of(lines, verdict.place.0)
-}
-
-fn say_verdict_by_name(system: System, n: u64, lines: &[u64], asked: Asked, verdict: Verdict) {
-    file::say_member(system, b"number", verdict.refusal.number);
-    file::say_member(system, b"place", verdict.place.0);
-    file::say_member(system, b"bit", verdict.refusal.bit);
-    if lines.len() != 0 {
-        file::say_member(system, b"line", line_in(verdict, lines));
-    }
-    file::say_member(system, b"words", n);
-    file::say_member(system, b"wave", asked.wave.0);
-    file::say_firmware(system, asked.rules);
+    let words = source.words.len();
+    let wave = asked.wave.0;
+    let firmware = Firmware(asked.options.rules);
+    print!(system; r#","words":{words},"wave":{wave},"firmware":{firmware}"#);
     file::end(system);
 }
 
-fn status_of(number: u64) -> u64 {
-    if number == 0 {
-        told::ACCEPTED
-    } else {
-        told::REFUSED
-    }
-}
-
-fn judge(system: System, words: &[u64], lines: &[u64], asked: Asked, argument: usize) -> u64 {
+#[inline(never)]
+fn judge(question: Question<'_>) -> Status {
+    let Question {
+        system,
+        source,
+        asked,
+    } = question;
     let mut marks = space::for_words();
-    let verdict = verdict::check(words, asked.wave, asked.rules, &mut marks);
-    let status = status_of(verdict.refusal.number);
-    let n = words.len() as u64;
-    if asked.json {
-        file::begin(system, argument, status);
-        say_verdict_by_name(system, n, lines, asked, verdict);
-        return status;
+    let verdict = verdict::check(source.words, asked.wave, asked.options.rules, &mut marks);
+    let status = if verdict.refusal.number == 0 {
+        Status::Accepted
+    } else {
+        Status::Refused
+    };
+    if asked.options.json {
+        file::begin(system, asked.file, status);
+        say_verdict_by_name(question, verdict);
+    } else {
+        say_name(system, asked);
+        say_verdict(question, verdict);
     }
-    say_name(system, argument);
-    say_verdict(system, n, lines, verdict);
     status
 }
 
 // One file, and its exit status if it were alone.
-fn check_file(system: System, asked: Asked, argument: usize) -> u64 {
+#[inline(never)]
+fn check_file(system: System, asked: Asked) -> Status {
+    let Asked {
+        file,
+        wave,
+        options,
+        ..
+    } = asked;
+    let Options { hex, rules, .. } = options;
     let mut words = space::for_words();
     let mut lines = space::for_lines();
     let mut line = io::buffer();
-    let found = words_of(
-        system,
-        argument,
-        asked.hex,
-        asked.rules,
-        asked.wave,
-        &mut words,
-        &mut lines,
-        &mut line,
-    );
-    let n = found.count;
-    let k = found.lines;
-    if !found.good {
-        say_no_answer(system, asked, argument);
-        return told::NO_ANSWER;
-    }
-    if found.number != 0 {
-        say_refused_text(system, found, asked, argument);
-        return told::REFUSED;
-    }
-    if n <= Sequence::WORDS as usize {
-        if k <= lines.len() {
-            return judge(system, &words[..n], &lines[..k], asked, argument);
+    let rooms = Rooms {
+        words: &mut words,
+        lines: &mut lines,
+        line: &mut line,
+    };
+    match words_of(system, file, hex, rules, wave, rooms) {
+        Ok(source) => judge(Question {
+            system,
+            source,
+            asked,
+        }),
+        Err(Trouble::Refused(bad)) => {
+            say_refused_text(system, bad, asked);
+            Status::Refused
+        }
+        Err(Trouble::Said) => {
+            say_no_answer(system, asked);
+            Status::NoAnswer
         }
     }
-    told::NO_ANSWER
 }
 
-pub fn check(system: System, asked: Asked) {
+pub fn check(system: System, asked: Asked) -> Ending {
     let mut tally = Tally {
         accepted: 0,
         refused: 0,
         missing: 0,
     };
-    let n = system.argument_count();
-    let mut i: usize = 2;
-    while i < n {
-        if asked::is_file(system, i) {
-            tally = tally.with(check_file(system, asked, i));
+    for file in 2..system.argument_count() {
+        if asked::is_file(system, file) {
+            tally.count(check_file(system, Asked { file, ..asked }));
         }
-        i += 1;
     }
-    if asked.several & !asked.json {
-        tally.say(system);
+    if asked.several && !asked.options.json {
+        println!(system; "{tally}");
     }
-    told::ends(tally.status(), 0);
+    Ending::of(tally.status())
 }

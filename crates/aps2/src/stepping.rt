@@ -1,82 +1,55 @@
 // A run that is stepped: its words come from a file and the lesson from standard input.
 // What it is refused for before its first step is told as everywhere.
+ghost use Rattle.std.specs.Prelude.{◌≤◌, length};
+
+use crate::answer::Question;
+use crate::ending::Ending;
 use crate::space;
 use files::messages::messages_of;
-use lesson::course::{Course, teach};
-use request::asked::Asked;
-use system::System;
-use told::{say, say_number};
+use lesson::{Lesson, Messages};
+use request::asked::Options;
+use told::Said;
 
-fn course_of(asked: Asked, messages: usize) -> Course {
-    let wave = asked.wave;
-    let rules = asked.rules;
-    Course::start(
-        wave,
+// With the first n messages, and as much room as is asked for.
+#[inline(never)]
+fn teach(question: Question<'_>, messages: &mut [u8], n: usize) -> Ending
+    requires { n ≤ length messages.old }
+{
+    let Options {
         rules,
-        asked.budget,
-        (asked.triggers % 0x1_0000_0000) as u32,
-        messages,
-    )
-}
-
-fn teaches(
-    system: System,
-    words: &[u64],
-    lines: &[u64],
-    messages: &mut [u8],
-    trace: &mut [u64],
-    course: Course,
-) {
-    let number = teach(system, words, lines, messages, trace, course);
-    if number == 0 {
-        told::ends(told::ACCEPTED, 0);
-        return;
-    }
-    say(system, b"refused: ");
-    say_number(system, number);
-    say(system, b"\n");
-    told::ends(told::REFUSED, number);
-}
-
-// With as much room as is asked for.
-fn teaches_in_room(
-    system: System,
-    words: &[u64],
-    lines: &[u64],
-    messages: &mut [u8],
-    trace: &mut [u64],
-    asked: Asked,
-    n: usize,
-) {
-    let room = asked.room as usize;
-    if room <= trace.len() {
-        teaches(
-            system,
-            words,
-            lines,
-            messages,
-            &mut trace[..room],
-            course_of(asked, n),
-        );
+        triggers,
+        budget,
+        room,
+        ..
+    } = question.asked.options;
+    let asked = paused::Asked {
+        wave: question.asked.wave,
+        rules,
+        triggers,
+        budget,
+    };
+    let mut trace = space::for_trace();
+    let room = trace.len().min(room);
+    let mut lesson = Lesson::start(
+        question.system,
+        question.source,
+        asked,
+        Messages::of(messages, n),
+        &mut trace[..room],
+    );
+    match lesson.teach() {
+        Ok(()) => Ending::ACCEPTED,
+        Err(number) => {
+            println!(question.system; "refused: {number}");
+            Ending::refused(number)
+        }
     }
 }
 
-pub fn step(system: System, words: &[u64], lines: &[u64], asked: Asked) {
+pub fn step(question: Question<'_>) -> Result<Ending, Said> {
     let mut messages = io::large_buffer();
     let mut numbers = space::for_words();
-    let heard = messages_of(system, asked.messages, &mut numbers, &mut messages);
-    if !heard.good {
-        told::ends(told::NO_ANSWER, 0);
-        return;
-    }
-    let mut trace = space::for_trace();
-    teaches_in_room(
-        system,
-        words,
-        lines,
-        &mut messages,
-        &mut trace,
-        asked,
-        heard.count,
-    );
+    let told = question.asked.options.messages;
+    let n = messages_of(question.system, told, &mut numbers, &mut messages)?;
+    Ok(teach(question, &mut messages, n))
 }

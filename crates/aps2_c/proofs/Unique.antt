@@ -4,7 +4,7 @@ use mathlib.Core.Path.{◌≡◌, sym, ap, ◌∙◌}
 use mathlib.Core.List.{List, [], ◌∷◌}
 use Prim.Native.Nat.{ℕ}
 use Rattle.instruction.specs.declared.Rules.{Rules}
-use Rattle.reader.specs.declared.Reading.{Reading}
+use Rattle.reader.specs.Reading.{Reading}
 use Rattle.writer.specs.declared.Written.{Written}
 use Rattle.jumps.specs.State.{Did}
 use Rattle.verdict.specs.declared.Verdict.{Verdict}
@@ -13,7 +13,7 @@ use Rattle.listing.specs.Listing.{Listed}
 use Rattle.aps2_c.specs.Fields.{Read, Wrote}
 use Rattle.listing_reader.specs.declared.ReadBack.{ReadBack}
 use Rattle.listing_reader.proofs.Unique.{one_answer_read_listing}
-use Rattle.block.specs.declared.Translation.{Translation}
+use Rattle.text.specs.Told.{Told as ToldOf, number_in, line_in, count_in}
 use Rattle.block.proofs.Unique.{one_answer_block}
 use Rattle.editions.specs.Moves.{lines_judged, labelled, labels_judged, addressed}
 use Rattle.editions.specs.declared.Moved.{Moved}
@@ -57,8 +57,8 @@ pub one_answer_aps2_block : (wave : ℕ) (text before : List ℕ) {r r' : ℕ} {
     → (r ≡ r') × (told ≡ told') × (after ≡ after')
 one_answer_aps2_block wave text before p q =
     let o = one_answer_block wave text before p.translates q.translates in (
-      ap (λ (t : Translation). t.number) o.0,
-      p.told ∙ ap (λ (t : Translation). t.line ∷ t.count ∷ []) o.0 ∙ sym q.told,
+      p.number ∙ ap number_in o.0 ∙ sym q.number,
+      p.told ∙ ap (λ (t : ToldOf). line_in t ∷ count_in t ∷ []) o.0 ∙ sym q.told,
       o.1,
     )
 

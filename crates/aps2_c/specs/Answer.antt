@@ -9,6 +9,7 @@ use Rattle.rehearsal.specs.declared.Answer.{Answer}
 use Rattle.verdict.specs.Check.{CheckIs}
 use Rattle.verdict.specs.Flow.{verdict}
 use Rattle.listing_reader.specs.ReadBack.{ReadsBack}
+use Rattle.text.specs.Told.{Told, number_in, line_in, count_in}
 use Rattle.block.specs.Text.{Translates}
 use Rattle.editions.specs.Moves.{Moves}
 use Rattle.editions.specs.declared.Moved.{Moved}
@@ -42,10 +43,10 @@ pub record ListingRead (rules : Rules) (text before after given : List ℕ) (r :
 
 -- what `aps2_block` answers, and what it leaves in the words and tells: line, and how many words
 pub record BlockWritten (wave : ℕ) (text before after given : List ℕ) (r : ℕ) : Type 0 where
-  pub line : ℕ
-  pub count : ℕ
-  pub told : given ≡ line ∷ count ∷ []
-  pub translates : Translates wave text before after (record { number = r; line = line; count = count })
+  pub answer : Told
+  pub number : r ≡ number_in answer
+  pub told : given ≡ line_in answer ∷ count_in answer ∷ []
+  pub translates : Translates wave text before after answer
 
 -- what `aps2_to_labels` and `aps2_to_addresses` answer, and what they leave in the buffer and tell: line, and how many bytes
 pub record TextMoved (judged : Moved) (text before after given : List ℕ) (r : ℕ) : Type 0 where

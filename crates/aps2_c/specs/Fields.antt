@@ -8,9 +8,8 @@ use Rattle.instruction.specs.declared.Instruction.{Instruction}
 use Rattle.instruction.specs.declared.Rules.{Rules}
 use Rattle.instruction.specs.declared.Body.{Body}
 use Rattle.instruction.specs.declared.Body.TheVariants.{Wait, Sync, Noop}
-use Rattle.reader.specs.Reading.{refusal_of, number_of}
-use Rattle.reader.specs.declared.Reading.{Reading}
-use Rattle.reader.specs.declared.Reading.TheVariants.{Accepted, Refused}
+use Rattle.reader.specs.Reading.{Reading, refusal_of, number_of}
+use Rattle.std.specs.declared.result.Result.TheVariants.{Ok, Err}
 use Rattle.writer.specs.Writing.{not_written, written_of}
 use Rattle.writer.specs.declared.Written.{Written}
 
@@ -37,8 +36,8 @@ fields_of i = code_of i.body ∷ i.engine ∷ i.write ∷ padded_to (field_count
 
 -- the fields of a reading; "A refused word leaves zeros"
 abbrev pub told : Reading → List ℕ
-told (Accepted i) = fields_of i
-told (Refused r) = padded_to field_count []
+told (Ok i) = fields_of i
+told (Err r) = padded_to field_count []
 
 -- what `aps2_read` answers, and what it leaves in the fields and in the bit
 pub record Read (reading : Reading) (r : ℕ) (fs given : List ℕ) : Type 0 where

@@ -6,6 +6,7 @@ ghost use Rattle.std.specs.Prelude.{◌≡◌, false, length};
 ghost use Rattle.reader.specs.Reading.{reading_of};
 ghost use Rattle.jumps.specs.State.{Fixed, fixed_in};
 ghost use Rattle.rehearsal.specs.Run.{rehearse};
+ghost use Rattle.paused.specs.Pause.{setting_of};
 ghost use Rattle.paused.specs.declared.Pace.{Pace};
 ghost use Rattle.listing.specs.Listing.{listing_of, Listed};
 ghost use Rattle.aps2_c.specs.Firmware.{rules_of};
@@ -15,15 +16,16 @@ ghost use Rattle.aps2_c.specs.Calls.{condition_refused, called_on, CallMade};
 ghost use Rattle.aps2_c.specs.Fields.{numbers_of, fields_of, Read, is_name, filled_past, values_asked, wish_of, Wrote};
 
 use block::block;
-use instruction::{Body, Instruction, QuadSamples, Refusal, Rules};
+use buffer::lay;
+use instruction::{Body, Instruction, Numbered, QuadSamples, Refusal, Rules};
 use laid::fields::body_of;
 use laid::widths::header_fits;
 use listing::list;
 use listing_reader::read_listing;
-use paused::{Asked, Paused, gone_on, stepped};
-use reader::{Reading, read};
+use paused::{Asked, BadCall, Pace, Paused, advance};
+use reader::read;
 use rehearsal::{Answer, input_refused, run};
-use state_c::{Numbers, held_in, held_numbers, lay, lay_state};
+use state_c::{Numbers, held_in, held_numbers, lay_state};
 use to_addresses::to_addresses;
 use to_labels::to_labels;
 use verdict::check;
@@ -95,11 +97,11 @@ pub extern "C" fn aps2_read(
     *bit = [0];
     let reading = read(word, rules_of(firmware));
     match reading {
-        Reading::Accepted(i) => {
+        Ok(i) => {
             *fields = fields_of(i);
             0
         }
-        Reading::Refused(r) => {
+        Err(r) => {
             *fields = [0; Lent::FIELDS];
             *bit = [r.bit];
             r.number
@@ -261,11 +263,34 @@ fn asked_of(wave: u64, firmware: u64, triggers: u32, budget: u64) -> Asked
 fn condition_refused(n: u64, wave: u64, budget: u64) -> u64
     ensures { (e : Fixed) → length e.words ≡ n → e.setting.wave.0 ≡ wave → result ≡ condition_refused budget e }
 {
-    let input = input_refused(n, QuadSamples(wave), budget);
-    if input != 0 {
-        return input;
+    match input_refused(n, QuadSamples(wave), budget) {
+        Ok(()) => BadCall::NoSuchState.number(),
+        Err(bad) => bad.number(),
     }
-    Paused::NO_SUCH_STATE
+}
+
+// A call on the state that C holds: refused for a condition that is none, or made on the state that the numbers are.
+fn call(
+    words: &[u64],
+    messages: &[u8],
+    trace: &mut [u64],
+    state: &mut [u64; Numbers::HELD],
+    bit: &mut [u64; 1],
+    asked: Asked,
+    pace: Pace,
+) -> u64
+    ensures { CallMade (called_on pace asked.budget (fixed_in words.now messages.now trace.old (setting_of asked)) state.old)
+        state.old trace.old trace.new state.new bit.new result }
+{
+    if Numbers::CONDITIONS <= state[Numbers::CONDITION] {
+        *bit = [0];
+        return condition_refused(words.len() as u64, asked.wave.0, asked.budget);
+    }
+    let r = advance(words, messages, trace, held_in(state), asked, pace);
+    *bit = [r.end.bit];
+    let paused = r.paused;
+    *state = held_numbers(paused);
+    r.end.number
 }
 
 #[unsafe(no_mangle)]
@@ -283,16 +308,8 @@ pub extern "C" fn aps2_step(
     ensures { CallMade (called_on Pace.Single budget (fixed_in words.now messages.now trace.old (record { wave = record { 0 = wave }; rules = rules_of firmware; triggers = triggers })) state.old)
         state.old trace.old trace.new state.new bit.new result }
 {
-    if Numbers::CONDITIONS <= state[Numbers::CONDITION] {
-        *bit = [0];
-        return condition_refused(words.len() as u64, wave, budget);
-    }
     let asked = asked_of(wave, firmware, triggers, budget);
-    let r = stepped(words, messages, trace, held_in(state), asked);
-    *bit = [r.end.bit];
-    let paused = r.paused;
-    *state = held_numbers(paused);
-    r.end.number
+    call(words, messages, trace, state, bit, asked, Pace::Single)
 }
 
 #[unsafe(no_mangle)]
@@ -310,16 +327,8 @@ pub extern "C" fn aps2_go_on(
     ensures { CallMade (called_on Pace.On budget (fixed_in words.now messages.now trace.old (record { wave = record { 0 = wave }; rules = rules_of firmware; triggers = triggers })) state.old)
         state.old trace.old trace.new state.new bit.new result }
 {
-    if Numbers::CONDITIONS <= state[Numbers::CONDITION] {
-        *bit = [0];
-        return condition_refused(words.len() as u64, wave, budget);
-    }
     let asked = asked_of(wave, firmware, triggers, budget);
-    let r = gone_on(words, messages, trace, held_in(state), asked);
-    *bit = [r.end.bit];
-    let paused = r.paused;
-    *state = held_numbers(paused);
-    r.end.number
+    call(words, messages, trace, state, bit, asked, Pace::On)
 }
 
 #[unsafe(no_mangle)]
@@ -347,9 +356,16 @@ pub extern "C" fn aps2_read_listing(
 pub extern "C" fn aps2_block(text: &[u8], wave: u64, words: &mut [u64], told: &mut [u64; 2]) -> u64
     ensures { BlockWritten wave text.now words.old words.new told.new result }
 {
-    let translated = block(text, QuadSamples(wave), words);
-    *told = [translated.line, translated.count];
-    translated.number
+    match block(text, QuadSamples(wave), words) {
+        Ok(count) => {
+            *told = [0, count];
+            0
+        }
+        Err(refused) => {
+            *told = [refused.line, 0];
+            refused.number
+        }
+    }
 }
 
 #[unsafe(no_mangle)]

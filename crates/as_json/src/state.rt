@@ -1,84 +1,66 @@
 // All that a run left, by name.
-use crate::file::{say_key, say_member};
+// Each is a member of the object, behind others.
 use dispatch::Engines;
-use jumps::{Condition, Core, State};
-use sequence::Sequence;
-use system::System;
-use told::{say, say_number};
-
-fn say_condition(system: System, condition: Condition) {
-    say_key(system, b"condition");
-    match condition {
-        Condition::Absent => say(system, b"\"none\""),
-        Condition::Fails => say(system, b"\"false\""),
-        Condition::Holds => say(system, b"\"true\""),
-    }
-}
-
-fn say_core(system: System, core: Core) {
-    say_member(system, b"address", core.address.0);
-    say_member(system, b"steps", core.steps);
-    say_member(system, b"messages_used", core.used);
-    say_member(system, b"trace_length", core.sent);
-    say_member(system, b"repeat_counter", core.counter);
-    say_member(system, b"register", core.register);
-    let condition = core.condition;
-    say_condition(system, condition);
-    say_member(system, b"held", core.held);
-    say_member(system, b"stack_depth", core.depth);
-}
+use jumps::State;
+use report::state::ConditionName;
+use std::fmt;
 
 // One count for each engine.
-fn say_engines(system: System, counts: [u64; Engines::COUNT]) {
-    say(system, b"{\"waveform\":");
-    say_number(system, counts[0]);
-    say_member(system, b"marker_0", counts[1]);
-    say_member(system, b"marker_1", counts[2]);
-    say_member(system, b"marker_2", counts[3]);
-    say_member(system, b"marker_3", counts[4]);
-    say_member(system, b"modulator", counts[5]);
-    say(system, b"}");
-}
+#[derive(Clone, Copy)]
+struct Counts<'a>(&'a [u64; Engines::COUNT]);
 
-fn say_entry(system: System, depth: u64, to: u64, counter: u64) {
-    if depth != 0 {
-        say(system, b",");
+// All that a run left.
+#[derive(Clone, Copy)]
+pub struct Left<'a>(pub &'a State);
+
+impl fmt::Display for Counts<'_> {
+    fn fmt<W: fmt::Write>(&self, f: &mut fmt::Formatter<W>) -> fmt::Result {
+        let [waveform, marker_0, marker_1, marker_2, marker_3, modulator] = *self.0;
+        write!(
+            f,
+            r#"{{"waveform":{waveform},"marker_0":{marker_0},"marker_1":{marker_1}"#
+        )?;
+        write!(
+            f,
+            r#","marker_2":{marker_2},"marker_3":{marker_3},"modulator":{modulator}}}"#
+        )
     }
-    say(system, b"{\"returns_to\":");
-    say_number(system, to);
-    say_member(system, b"counter", counter);
-    say(system, b"}");
 }
 
-fn say_entries(
-    system: System,
-    depth: u64,
-    returns: [u64; Sequence::STACK as usize],
-    counters: [u64; Sequence::STACK as usize],
-) {
-    let mut d: u64 = 0;
-    while d < Sequence::STACK {
-        let i = d as usize;
-        if d < depth {
-            say_entry(system, d, returns[i], counters[i]);
+impl Left<'_> {
+    fn fmt_core<W: fmt::Write>(&self, f: &mut fmt::Formatter<W>) -> fmt::Result {
+        let core = self.0.core;
+        write!(f, r#","address":{}"#, core.address.0)?;
+        write!(f, r#","steps":{}"#, core.steps)?;
+        write!(f, r#","messages_used":{}"#, core.used)?;
+        write!(f, r#","trace_length":{}"#, core.sent)?;
+        write!(f, r#","repeat_counter":{}"#, core.counter)?;
+        write!(f, r#","register":{}"#, core.register)?;
+        write!(f, r#","condition":"{}""#, ConditionName(core.condition))?;
+        write!(f, r#","held":{}"#, core.held)?;
+        write!(f, r#","stack_depth":{}"#, core.depth)
+    }
+
+    fn fmt_stack<W: fmt::Write>(&self, f: &mut fmt::Formatter<W>) -> fmt::Result {
+        let entries = self.0.returns.iter().zip(self.0.counters.iter());
+        for (depth, (returns, counter)) in entries.enumerate().take(self.0.core.depth as usize) {
+            let comma = if depth == 0 { "" } else { "," };
+            write!(
+                f,
+                r#"{comma}{{"returns_to":{returns},"counter":{counter}}}"#
+            )?;
         }
-        d += 1;
+        Ok(())
     }
 }
 
-pub fn say_state(system: System, state: State) {
-    let core = state.core;
-    let returns = state.returns;
-    let counters = state.counters;
-    let waits = state.waits;
-    let totals = state.totals;
-    say_core(system, core);
-    say_key(system, b"stack");
-    say(system, b"[");
-    say_entries(system, core.depth, returns, counters);
-    say(system, b"]");
-    say_key(system, b"trigger_waits");
-    say_engines(system, waits);
-    say_key(system, b"quad_samples");
-    say_engines(system, totals);
+impl fmt::Display for Left<'_> {
+    fn fmt<W: fmt::Write>(&self, f: &mut fmt::Formatter<W>) -> fmt::Result {
+        self.fmt_core(f)?;
+        write!(f, r#","stack":["#)?;
+        self.fmt_stack(f)?;
+        let waits = Counts(&self.0.waits);
+        let totals = Counts(&self.0.totals);
+        write!(f, r#"],"trigger_waits":{waits},"quad_samples":{totals}"#)
+    }
 }

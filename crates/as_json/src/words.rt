@@ -1,229 +1,102 @@
 // Words as JSON: what the listing's line of a word has, each entry by its name; and a trace as words of text.
+// A script need not hold numbers of 64 bits.
 use instruction::{Body, Rules};
 use listing::Listing;
 use reader::{coarse_of, instruction_in};
-use system::System;
-use told::say;
+use report::words::Line;
+use std::fmt;
 
-// A row of text that goes out in one piece: longer than any line of the listing with the names of its fields.
-#[derive(Clone, Copy)]
-struct Row;
+// The names of what follows the name of a word in its line: of one that is BAD a number, or 11 with the finer number and the bit; of an
+// instruction engine select and write flag, and its fields.
+const BAD: &[&str] = &["number", "kind", "bit"];
 
-impl Row {
-    const SIZE: usize = 256;
-}
+const WAVEFORM: &[&str] = &["engine", "write", "op", "ta", "count", "address"];
 
-// Where the pen is in the row, which entry of the line it is at, where the name of the next entry begins, and where the names
-// of the word's fields do; 0 for a word that has none, since it is BAD.
-#[derive(Clone, Copy)]
-struct Pen {
-    at: usize,
-    entry: u64,
-    key: usize,
-    fields: usize,
-}
+const MARKER: &[&str] = &["engine", "write", "op", "transition", "state", "count"];
 
-// The names of entries, each ended by a space: a line has the first two and what it is BAD for, a number, or 11 with the finer
-// number and the bit; or the first two, engine select and write flag, and its fields.
-#[derive(Clone, Copy)]
-struct Keys;
+const LOAD_REPEAT: &[&str] = &["engine", "write", "count"];
 
-impl Keys {
-    const SIZE: usize = 111;
+const CMP: &[&str] = &["engine", "write", "code", "mask"];
 
-    // The entry that is a name and no number.
-    const NAME: u64 = 1;
+const MODULATOR: &[&str] = &["engine", "write", "op", "nco", "payload"];
 
-    const ENGINE: usize = 27;
-
-    const WAVEFORM: usize = 40;
-
-    const ADDRESS: usize = 52;
-
-    const MARKER: usize = 60;
-
-    const COUNT: usize = 80;
-
-    const CMP: usize = 86;
-
-    const MODULATOR: usize = 96;
-
-    // Where the names of an instruction's fields begin.
-    fn of(body: Body) -> usize {
-        match body {
-            Body::Waveform(_) => Keys::WAVEFORM,
-            Body::Marker(_) => Keys::MARKER,
-            Body::LoadRepeat(_) => Keys::COUNT,
-            Body::Cmp(_) => Keys::CMP,
-            Body::Modulator(_) => Keys::MODULATOR,
-            _ => Keys::ADDRESS,
-        }
-    }
-}
-
-impl Pen {
-    // At the next entry.
-    fn next(mut self) -> Pen {
-        let entry = std::num::wrapping_add_u64(self.entry, 1);
-        self.entry = entry;
-        if self.fields == 0 {
-            return self;
-        }
-        if entry == Keys::NAME + 1 {
-            self.key = Keys::ENGINE;
-        }
-        if entry == Keys::NAME + 3 {
-            self.key = self.fields;
-        }
-        self
-    }
-}
-
-// What does not fit is left out.
-fn put(row: &mut [u8; Row::SIZE], at: usize, b: u8) -> usize {
-    if Row::SIZE <= at {
-        return at;
-    }
-    row[at] = b;
-    at + 1
-}
-
-fn put_key(row: &mut [u8; Row::SIZE], mut pen: Pen, keys: &[u8]) -> Pen {
-    let mut at = put(row, pen.at, b'"');
-    let mut key = pen.key;
-    while key < keys.len() {
-        let b = keys[key];
-        key += 1;
-        if b == b' ' {
-            break;
-        }
-        at = put(row, at, b);
-    }
-    let closed = put(row, at, b'"');
-    pen.at = put(row, closed, b':');
-    pen.key = key;
-    pen
-}
-
-// A name stands in quotes.
-fn put_quote(row: &mut [u8; Row::SIZE], mut pen: Pen) -> Pen {
-    if pen.entry == Keys::NAME {
-        pen.at = put(row, pen.at, b'"');
-    }
-    pen
-}
-
-fn put_next(row: &mut [u8; Row::SIZE], pen: Pen, keys: &[u8]) -> Pen {
-    let mut ended = put_quote(row, pen);
-    ended.at = put(row, ended.at, b',');
-    let named = put_key(row, ended.next(), keys);
-    put_quote(row, named)
-}
-
-// What a byte of the line becomes.
-fn put_byte(row: &mut [u8; Row::SIZE], mut pen: Pen, keys: &[u8], b: u8) -> Pen {
-    if b == b'\t' {
-        return put_next(row, pen, keys);
-    }
-    if b == b'\n' {
-        let mut ended = put_quote(row, pen);
-        ended.at = put(row, ended.at, b'}');
-        return ended;
-    }
-    pen.at = put(row, pen.at, b);
-    pen
-}
+const JUMP: &[&str] = &["engine", "write", "address"];
 
 // A line of the listing as an object.
-fn put_line(row: &mut [u8; Row::SIZE], line: &[u8], keys: &[u8], fields: usize) -> usize {
-    let start = Pen {
-        at: put(row, 0, b'{'),
-        entry: 0,
-        key: 0,
-        fields,
-    };
-    let mut pen = put_key(row, start, keys);
-    let mut i: usize = 0;
-    while i < line.len() {
-        pen = put_byte(row, pen, keys, line[i]);
-        i += 1;
-    }
-    pen.at
+#[derive(Clone, Copy)]
+struct Object {
+    line: Line,
+    names: &'static [&'static str],
 }
 
-fn fields_of(word: u64, rules: Rules) -> usize {
+#[derive(Clone, Copy)]
+pub struct Words<'a> {
+    pub words: &'a [u64],
+    pub rules: Rules,
+}
+
+// Words as their sixteen digits.
+#[derive(Clone, Copy)]
+pub struct Digits<'a>(pub &'a [u64]);
+
+fn names_of(word: u64, rules: Rules) -> &'static [&'static str] {
     if coarse_of(word, rules) != 0 {
-        return 0;
+        return BAD;
     }
-    let i = instruction_in(word);
-    let body = i.body;
-    Keys::of(body)
+    match instruction_in(word).body {
+        Body::Waveform(_) => WAVEFORM,
+        Body::Marker(_) => MARKER,
+        Body::LoadRepeat(_) => LOAD_REPEAT,
+        Body::Cmp(_) => CMP,
+        Body::Modulator(_) => MODULATOR,
+        _ => JUMP,
+    }
+}
+
+impl fmt::Display for Object {
+    fn fmt<W: fmt::Write>(&self, f: &mut fmt::Formatter<W>) -> fmt::Result {
+        let mut buffer = [0u8; Listing::LINE];
+        let names = self.names;
+        let mut entries = self.line.text(&mut buffer).trim_ascii_end().split('\t');
+        let place = entries.next().unwrap_or("");
+        let word = entries.next().unwrap_or("");
+        write!(f, r#"{{"place":{place},"name":"{word}""#)?;
+        for (entry, name) in entries.zip(names.iter()) {
+            write!(f, r#","{name}":{entry}"#)?;
+        }
+        write!(f, "}}")
+    }
 }
 
 // Before every item of a list but the first.
-fn say_comma(system: System, place: u64) {
-    if place != 0 {
-        say(system, b",");
+fn comma_before(place: usize) -> &'static str {
+    if place == 0 { "" } else { "," }
+}
+
+impl fmt::Display for Words<'_> {
+    fn fmt<W: fmt::Write>(&self, f: &mut fmt::Formatter<W>) -> fmt::Result {
+        let Words { words, rules } = *self;
+        write!(f, "[")?;
+        for (place, word) in words.iter().enumerate() {
+            let line = Line {
+                address: place as u64,
+                word: *word,
+                rules,
+            };
+            let names = names_of(*word, rules);
+            write!(f, "{}{}", comma_before(place), Object { line, names })?;
+        }
+        write!(f, "]")
     }
 }
 
-fn say_row(system: System, row: [u8; Row::SIZE], n: usize) {
-    if n <= Row::SIZE {
-        say(system, &row[..n]);
+impl fmt::Display for Digits<'_> {
+    fn fmt<W: fmt::Write>(&self, f: &mut fmt::Formatter<W>) -> fmt::Result {
+        let words = self.0;
+        write!(f, "[")?;
+        for (place, word) in words.iter().enumerate() {
+            write!(f, r#"{}"{word:016x}""#, comma_before(place))?;
+        }
+        write!(f, "]")
     }
-}
-
-fn say_line(system: System, line: &[u8], fields: usize) {
-    let keys: [u8; Keys::SIZE] =
-        *b"place name number kind bit engine write op ta count address op transition state count code mask op nco payload ";
-    let mut row = [0u8; Row::SIZE];
-    let end = put_line(&mut row, line, &keys, fields);
-    say_row(system, row, end);
-}
-
-// One more word, as an object.
-fn say_word(system: System, place: u64, word: u64, rules: Rules) {
-    say_comma(system, place);
-    let fields = fields_of(word, rules);
-    let mut line = [0u8; Listing::LINE];
-    let n = listing::line(place, word, rules, &mut line);
-    if n <= Listing::LINE {
-        say_line(system, &line[..n], fields);
-    }
-}
-
-fn say_each(system: System, words: &[u64], rules: Rules) {
-    let mut a: usize = 0;
-    while a < words.len() {
-        say_word(system, a as u64, words[a], rules);
-        a += 1;
-    }
-}
-
-pub fn say_words(system: System, words: &[u64], rules: Rules) {
-    say(system, b"[");
-    say_each(system, words, rules);
-    say(system, b"]");
-}
-
-// One more word as its sixteen digits: a script need not hold numbers of 64 bits.
-fn say_digits(system: System, place: u64, word: u64) {
-    say_comma(system, place);
-    say(system, b"\"");
-    system.say_hexadecimal(word, 16);
-    say(system, b"\"");
-}
-
-fn say_all_digits(system: System, trace: &[u64]) {
-    let mut i: usize = 0;
-    while i < trace.len() {
-        say_digits(system, i as u64, trace[i]);
-        i += 1;
-    }
-}
-
-pub fn say_trace(system: System, trace: &[u64]) {
-    say(system, b"[");
-    say_all_digits(system, trace);
-    say(system, b"]");
 }

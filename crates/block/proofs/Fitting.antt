@@ -14,7 +14,8 @@ use Rattle.buffer.proofs.Laws.{fill_next, fill_at}
 use Rattle.nest.specs.Block.{nest_limit}
 use Rattle.nest.specs.Layout.{sum_of, starts_from}
 use Rattle.nest.proofs.Sums.{starts_length}
-use Rattle.block.specs.Text.{refused_at, accepted, room_refused, fitted}
+use Rattle.text.specs.Told.{refused_at, accepted}
+use Rattle.block.specs.Text.{room_refused, fitted}
 
 -- ---- 54, 55
 

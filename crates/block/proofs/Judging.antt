@@ -5,7 +5,7 @@ use mathlib.Core.Path.{◌≡◌, refl, sym, ap, ◌∙◌}
 use mathlib.Core.Bool.{Bool, true, false}
 use mathlib.Core.List.{List, [], ◌∷◌, map}
 use native.Mathlib.Omega.{arith}
-use borrow.Author.Tests.{eq-eqb, ne_eqb, eqb-true}
+use borrow.Author.Tests.{eq-eqb, ne_eqb, eqb-true, eqb-false}
 use lib.Dec.{eqb}
 use lib.ListN.{length, get_or, drop}
 use Rattle.instruction.specs.Bits.{pick}
@@ -20,13 +20,15 @@ use Rattle.nest.proofs.Sums.{raised_sum}
 use Rattle.block_line.specs.Line.{line_of, line_number, level_after}
 use Rattle.block_line.proofs.Shapes.{op_in, line_plays}
 use Rattle.block_line.proofs.Numbers.{repeat_fair, number_pulse, end_paired, shaped}
-use Rattle.block.specs.Text.{refused_at, accepted, judged}
+use Rattle.block.specs.Text.{judged}
 use Rattle.block_line.specs.Taking.{lines_from, taken_at}
 use Rattle.block_line.specs.declared.Taken.{Taken}
 use Rattle.block_line.proofs.Forms.{lines_none}
 use Rattle.block_line.proofs.Taking.{Takes, takes}
 use Rattle.block.specs.Steps.{AllShaped, words_for, counted, Judges}
-use Rattle.block.specs.declared.Translation.{Translation}
+use Rattle.std.specs.Prelude.{Err}
+use Rattle.text.specs.Told.{Told, number_in, accepted, refused_at}
+use Rattle.text.specs.declared.Refused.{Refused}
 
 -- ---- one line
 
@@ -40,13 +42,13 @@ module _ (wave row level : ℕ) (line : Line) (lines : List Line) where
   judged_bad n = rw (ne_eqb (line_number wave level line) 0 n)
 
   -- a line that is let through, and those behind it
-  judged_good : (judged wave row level (line ∷ lines)).number ≡ 0 → (line_number wave level line ≡ 0) × ((judged wave (row + 1) (level_after line level) lines).number ≡ 0)
+  judged_good : (number_in (judged wave row level (line ∷ lines))) ≡ 0 → (line_number wave level line ≡ 0) × ((number_in (judged wave (row + 1) (level_after line level) lines)) ≡ 0)
   unfolding judged
   judged_good e = by (eqb (line_number wave level line) 0) refl e
     where
       by : (t : Bool) → eqb (line_number wave level line) 0 ≡ t
-          → (pick t (judged wave (row + 1) (level_after line level) lines) (refused_at (line_number wave level line) row)).number ≡ 0
-          → (line_number wave level line ≡ 0) × ((judged wave (row + 1) (level_after line level) lines).number ≡ 0)
+          → (number_in (pick t (judged wave (row + 1) (level_after line level) lines) (refused_at (line_number wave level line) row))) ≡ 0
+          → (line_number wave level line ≡ 0) × ((number_in (judged wave (row + 1) (level_after line level) lines)) ≡ 0)
       by true p z = (eqb-true (line_number wave level line) 0 p, z)
       by false p z = absurd (let y : true ≡ false = sym (eq-eqb (line_number wave level line) 0 z) ∙ p in let x : ◌≡◌ {A = ℕ} 0 1 = cc in omega arith)
 
@@ -59,13 +61,29 @@ left_open_lem : (wave row level : ℕ) → (level ≡ 0 → ⊥) → judged wave
 unfolding judged
 left_open_lem wave row level n = rw (ne_eqb level 0 n)
 
-none_open : (wave row level : ℕ) → (judged wave row level []).number ≡ 0 → level ≡ 0
+none_open : (wave row level : ℕ) → (number_in (judged wave row level [])) ≡ 0 → level ≡ 0
 unfolding judged
 none_open wave row level e = by (eqb level 0) refl e
   where
-    by : (t : Bool) → eqb level 0 ≡ t → (pick t (accepted 0) (refused_at 52 row)).number ≡ 0 → level ≡ 0
+    by : (t : Bool) → eqb level 0 ≡ t → (number_in (pick t (accepted 0) (refused_at 52 row))) ≡ 0 → level ≡ 0
     by true p z = eqb-true level 0 p
     by false p z = absurd (omega (arith, z))
+
+-- what is refused has a number
+pub judged_refused : (wave row level : ℕ) (lines : List Line) {e : Refused} → Err e ≡ judged wave row level lines → e.number ≡ 0 → ⊥
+unfolding judged
+judged_refused wave row level [] {e = e} f z = by (eqb level 0) f
+  where
+    by : (t : Bool) → Err e ≡ pick t (accepted 0) (refused_at 52 row) → ⊥
+    by true g = cc
+    by false g = omega (arith, z, ap number_in g)
+judged_refused wave row level (line ∷ lines) {e = e} f z = by (eqb (line_number wave level line) 0) refl f (λ g. judged_refused wave (row + 1) (level_after line level) lines g z)
+  where
+    by : (t : Bool) → eqb (line_number wave level line) 0 ≡ t
+        → Err e ≡ pick t (judged wave (row + 1) (level_after line level) lines) (refused_at (line_number wave level line) row)
+        → (Err e ≡ judged wave (row + 1) (level_after line level) lines → ⊥) → ⊥
+    by true p g ih = ih g
+    by false p g ih = eqb-false (line_number wave level line) 0 p (sym (ap number_in g) ∙ z)
 
 -- ---- levels
 
@@ -109,15 +127,15 @@ module _ (wave : ℕ) (text before : List ℕ) where
       last : judged wave 1 0 (lines_from text 0) ≡ judged wave row level []
       last = sym g.told ∙ ap (judged wave row level) (lines_none text at h)
 
-      pub judging_open : (level ≡ 0 → ⊥) → {r : Translation} → r ≡ refused_at 52 row → Judges wave text before sizes r
+      pub judging_open : (level ≡ 0 → ⊥) → {r : Told} → r ≡ refused_at 52 row → Judges wave text before sizes r
       judging_open n {r = r} e =
           record {
             answer = e ∙ sym (last ∙ left_open_lem wave row level n);
-            sizes = λ z. absurd (omega (arith, z, ap (λ (t : Translation). t.number) e));
-            few = λ z. absurd (omega (arith, z, ap (λ (t : Translation). t.number) e));
+            sizes = λ z. absurd (omega (arith, z, ap number_in e));
+            few = λ z. absurd (omega (arith, z, ap number_in e));
           }
 
-      pub judging_end : level ≡ 0 → {r : Translation} → r ≡ accepted 0 → Judges wave text before sizes r
+      pub judging_end : level ≡ 0 → {r : Told} → r ≡ accepted 0 → Judges wave text before sizes r
       judging_end z e =
           record {
             answer = e ∙ sym (last ∙ ended wave row level z);
@@ -139,14 +157,14 @@ module _ (wave : ℕ) (text before : List ℕ) where
       pub judging_falls : length text - next < length text - at
       judging_falls = omega (arith, k.later, k.far)
 
-      pub judging_bad : (number ≡ 0 → ⊥) → {r : Translation} → r ≡ refused_at number row → Judges wave text before sizes r
+      pub judging_bad : (number ≡ 0 → ⊥) → {r : Told} → r ≡ refused_at number row → Judges wave text before sizes r
       judging_bad n f =
           record {
             answer =
                 f ∙ ap (λ (x : ℕ). refused_at x row) e ∙ sym (judged_bad wave row level line k.rest (λ z. n (e ∙ z)))
                 ∙ sym (ap (judged wave row level) k.lines) ∙ g.told;
-            sizes = λ z. absurd (n (sym (ap (λ (t : Translation). t.number) f) ∙ z));
-            few = λ z. absurd (n (sym (ap (λ (t : Translation). t.number) f) ∙ z));
+            sizes = λ z. absurd (n (sym (ap number_in f) ∙ z));
+            few = λ z. absurd (n (sym (ap number_in f) ∙ z));
           }
 
       pub judging_place : level < length sizes
@@ -193,7 +211,7 @@ all_play [] = tt
 all_play (row ∷ rows) = (line_plays row, all_play rows)
 
 -- the block that is `out` levels out stands at the level k, where out + k repeats are open
-fair_in : (wave row level : ℕ) (lines : List Line) → AllPlay lines → (judged wave row level lines).number ≡ 0 → (out k : ℕ) → out + k ≡ level → Fair wave k (block_in lines out)
+fair_in : (wave row level : ℕ) (lines : List Line) → AllPlay lines → (number_in (judged wave row level lines)) ≡ 0 → (out k : ℕ) → out + k ≡ level → Fair wave k (block_in lines out)
 unfolding level_after
 fair_in wave row level [] p e out k s = tt
 fair_in wave row level (Pulse f ∷ lines) p e zero k s =
@@ -214,16 +232,16 @@ fair_in wave row level (End ∷ lines) p e zero k s = tt
 fair_in wave row level (End ∷ lines) p e (suc out) k s = fair_in wave (row + 1) (level - 1) lines p.1 (judged_good wave row level End lines e).1 out k (omega (arith, s))
 fair_in wave row level (Unshaped ∷ lines) p e out k s = absurd (shaped wave level (judged_good wave row level Unshaped lines e).0 refl)
 
-shaped_in : (wave row level : ℕ) (lines : List Line) → (judged wave row level lines).number ≡ 0 → AllShaped lines
+shaped_in : (wave row level : ℕ) (lines : List Line) → (number_in (judged wave row level lines)) ≡ 0 → AllShaped lines
 shaped_in wave row level [] e = tt
 shaped_in wave row level (line ∷ lines) e =
     let g = judged_good wave row level line lines e in
     (shaped wave level g.0, shaped_in wave (row + 1) (level_after line level) lines g.1)
 
-pub judged_shaped : (wave : ℕ) (text : List ℕ) → (judged wave 1 0 (lines_from text 0)).number ≡ 0 → AllShaped (lines_from text 0)
+pub judged_shaped : (wave : ℕ) (text : List ℕ) → (number_in (judged wave 1 0 (lines_from text 0))) ≡ 0 → AllShaped (lines_from text 0)
 judged_shaped wave text e = shaped_in wave 1 0 (lines_from text 0) e
 
-pub judged_fair : (wave : ℕ) (text : List ℕ) → (judged wave 1 0 (lines_from text 0)).number ≡ 0 → Fair wave 0 (block_in (lines_from text 0) 0)
+pub judged_fair : (wave : ℕ) (text : List ℕ) → (number_in (judged wave 1 0 (lines_from text 0))) ≡ 0 → Fair wave 0 (block_in (lines_from text 0) 0)
 judged_fair wave text e = fair_in wave 1 0 (lines_from text 0) (all_play (rows_in (drop 0 text))) e 0 0 refl
 
 -- ---- the counts are those of the block
@@ -233,7 +251,7 @@ rest_of : (ℕ → Block) → ℕ → List ℕ → List ℕ
 rest_of blocks zero sizes = passed (blocks 0) 0 sizes
 rest_of blocks (suc level) sizes = rest_of (λ out. blocks (suc out)) level (raised (passed (blocks 0) (suc level) sizes) (suc level) 1)
 
-counted_rest : (wave row level : ℕ) (lines : List Line) (sizes : List ℕ) → (judged wave row level lines).number ≡ 0
+counted_rest : (wave row level : ℕ) (lines : List Line) (sizes : List ℕ) → (number_in (judged wave row level lines)) ≡ 0
     → counted lines level sizes ≡ rest_of (block_in lines) level sizes
 unfolding level_after rest_of
 counted_rest wave row zero [] sizes e = refl
@@ -246,13 +264,13 @@ counted_rest wave row zero (End ∷ lines) sizes e = absurd (let h = end_paired 
 counted_rest wave row (suc level) (End ∷ lines) sizes e =
     let g = (judged_good wave row (suc level) End lines e).1 in
     ap (λ (k : ℕ). counted lines k (raised sizes (suc level) 1)) (less level)
-    ∙ counted_rest wave (row + 1) level lines (raised sizes (suc level) 1) (ap (λ (k : ℕ). (judged wave (row + 1) k lines).number) (sym (less level)) ∙ g)
+    ∙ counted_rest wave (row + 1) level lines (raised sizes (suc level) 1) (ap (λ (k : ℕ). (number_in (judged wave (row + 1) k lines))) (sym (less level)) ∙ g)
   where
     less : (k : ℕ) → suc k - 1 ≡ k
     less k = omega arith
 counted_rest wave row level (Unshaped ∷ lines) sizes e = absurd (shaped wave level (judged_good wave row level Unshaped lines e).0 refl)
 
-pub judged_counts : (wave : ℕ) (text sizes : List ℕ) → (judged wave 1 0 (lines_from text 0)).number ≡ 0
+pub judged_counts : (wave : ℕ) (text sizes : List ℕ) → (number_in (judged wave 1 0 (lines_from text 0))) ≡ 0
     → counted (lines_from text 0) 0 sizes ≡ passed (block_in (lines_from text 0) 0) 0 sizes
 unfolding rest_of
 judged_counts wave text sizes e = counted_rest wave 1 0 (lines_from text 0) sizes e

@@ -16,10 +16,12 @@ use Rattle.nest.specs.Fair.{Fair}
 use Rattle.nest.specs.Layout.{size_of, raised, passed, sum_of, sizes_of, starts_from, Sheet, sheet, put, laid, laid_in, parked, words_of}
 use Rattle.nest.proofs.Sums.{sizes_length, sizes_sum, starts_first}
 use Rattle.nest.proofs.Wholes.{heads_of, heads_levels, park_place, park_inside, laid_room, whole_in}
-use Rattle.block.specs.Text.{lines_in, block_of, refused_at, accepted, judged, room_refused, fitted, translation, Translates}
+use Rattle.block.specs.Text.{lines_in, block_of, judged, room_refused, fitted, translation, Translates}
 use Rattle.block.specs.Steps.{Judges, BlockAsks, Laid, CanStart}
-use Rattle.block.specs.declared.Translation.{Translation}
-use Rattle.block.proofs.Judging.{judged_shaped, judged_fair, judged_counts}
+use Rattle.std.specs.Prelude.{Err}
+use Rattle.text.specs.Told.{Told, number_in, accepted, refused_at}
+use Rattle.text.specs.declared.Refused.{Refused}
+use Rattle.block.proofs.Judging.{judged_refused, judged_shaped, judged_fair, judged_counts}
 use Rattle.block.proofs.Laying.{put_length, laid_places, laid_size}
 
 -- ---- laying
@@ -80,22 +82,31 @@ module _ (text heads words : List ℕ) (a : CanStart text heads words) where
 
 -- ---- what is told
 
-fit_room : (room size : ℕ) → (fitted room size).number ≡ 0 → size ≤ room
+fit_room : (room size : ℕ) → (number_in (fitted room size)) ≡ 0 → size ≤ room
 unfolding fitted room_refused
 fit_room room size e = by (ltb word_limit size) (ltb room size) refl e
   where
     by : (s t : Bool) → ltb room size ≡ t
-        → (pick (eqb (s gives 54 else t gives 55 else 0) 0) (accepted size) (refused_at (s gives 54 else t gives 55 else 0) 0)).number ≡ 0 → size ≤ room
+        → (number_in (pick (eqb (s gives 54 else t gives 55 else 0) 0) (accepted size) (refused_at (s gives 54 else t gives 55 else 0) 0))) ≡ 0 → size ≤ room
     by true t p z = absurd (omega (arith, z))
     by false true p z = absurd (omega (arith, z))
     by false false p z = ltb-false room size p
+
+fit_refused : (room size : ℕ) {e : Refused} → Err e ≡ fitted room size → e.number ≡ 0 → ⊥
+unfolding fitted room_refused
+fit_refused room size {e = e} f z = by (ltb word_limit size) (ltb room size) f
+  where
+    by : (s t : Bool) → Err e ≡ pick (eqb (s gives 54 else t gives 55 else 0) 0) (accepted size) (refused_at (s gives 54 else t gives 55 else 0) 0) → ⊥
+    by true t g = omega (arith, z, ap number_in g)
+    by false true g = omega (arith, z, ap number_in g)
+    by false false g = cc
 
 -- the words that SYNC and the park bring
 abbrev blank : List ℕ
 blank = 2 ∷ replicate nest_limit 0
 
-number_of : {r s : Translation} → r ≡ s → r.number ≡ s.number
-number_of e = ap (λ (t : Translation). t.number) e
+number_of : {r s : Told} → r ≡ s → number_in r ≡ number_in s
+number_of e = ap number_in e
 
 module _ (wave : ℕ) (text before : List ℕ) where
   abbrev all : List ℕ
@@ -105,25 +116,25 @@ module _ (wave : ℕ) (text before : List ℕ) where
   untouched : (number : ℕ) → (number ≡ 0 → ⊥) → before ≡ pick (eqb number 0) all before
   untouched number n = rw (ne_eqb number 0 n)
 
-  pub block_3 : wave_limit < wave → {r : Translation} → r ≡ refused_at 3 0 → Translates wave text before before r
+  pub block_3 : wave_limit < wave → {r : Told} → r ≡ refused_at 3 0 → Translates wave text before before r
   unfolding translation
   block_3 h {r = r} e =
       record {
         answer = e ∙ rw (lt-ltb wave_limit wave h);
-        words = untouched r.number (λ z. omega (arith, z, number_of e));
+        words = untouched (number_in r) (λ z. omega (arith, z, number_of e));
       }
 
-  module _ (h : wave ≤ wave_limit) {told : Translation} {sizes : List ℕ} (j : Judges wave text blank sizes told) where
-    pub block_bad : (told.number ≡ 0 → ⊥) → Translates wave text before before told
+  module _ (h : wave ≤ wave_limit) {told : Told} {sizes : List ℕ} (j : Judges wave text blank sizes told) where
+    bad : ((number_in told) ≡ 0 → ⊥) → Translates wave text before before told
     unfolding translation
-    block_bad n =
+    bad n =
         record {
-          answer = j.answer ∙ rw (le-ltb wave_limit wave h, ne_eqb (judged wave 1 0 (lines_in text)).number 0 (λ z. n (number_of j.answer ∙ z)));
-          words = untouched told.number n;
+          answer = j.answer ∙ rw (le-ltb wave_limit wave h, ne_eqb (number_in (judged wave 1 0 (lines_in text))) 0 (λ z. n (number_of j.answer ∙ z)));
+          words = untouched (number_in told) n;
         }
 
-    module _ (z : told.number ≡ 0) where
-      good : (judged wave 1 0 (lines_in text)).number ≡ 0
+    module _ (z : number_in told ≡ 0) where
+      good : (number_in (judged wave 1 0 (lines_in text))) ≡ 0
       good = sym (number_of j.answer) ∙ z
 
       fair : Fair wave 0 (block_of text)
@@ -135,7 +146,7 @@ module _ (wave : ℕ) (text before : List ℕ) where
       pub stack_asks : length text < 2 ^ 63 → (length sizes ≡ suc nest_limit) × (sum_of sizes < 2 ^ 64)
       stack_asks l = (ap length sizes_are ∙ sizes_length (block_of text), omega (arith, j.few z, l))
 
-      module _ {heads : List ℕ} {size : ℕ} (s : (heads ≡ starts_from 0 sizes) × (size ≡ sum_of sizes)) {r : Translation} (f : r ≡ fitted (length before) size) where
+      module _ {heads : List ℕ} {size : ℕ} (s : (heads ≡ starts_from 0 sizes) × (size ≡ sum_of sizes)) {r : Told} (f : r ≡ fitted (length before) size) where
         size_is : size ≡ size_of (block_of text)
         size_is = s.1 ∙ ap sum_of sizes_are ∙ sizes_sum wave (block_of text) fair
 
@@ -144,12 +155,12 @@ module _ (wave : ℕ) (text before : List ℕ) where
 
         told_is : r ≡ translation wave (length before) text
         unfolding translation
-        told_is = fits ∙ rw (le-ltb wave_limit wave h, eq-eqb (judged wave 1 0 (lines_in text)).number 0 good)
+        told_is = fits ∙ rw (le-ltb wave_limit wave h, eq-eqb (number_in (judged wave 1 0 (lines_in text))) 0 good)
 
-        pub block_full : (r.number ≡ 0 → ⊥) → Translates wave text before before r
-        block_full n = record { answer = told_is; words = untouched r.number n }
+        full : ((number_in r) ≡ 0 → ⊥) → Translates wave text before before r
+        full n = record { answer = told_is; words = untouched (number_in r) n }
 
-        module _ (y : r.number ≡ 0) where
+        module _ (y : (number_in r) ≡ 0) where
           room : size_of (block_of text) ≤ length before
           room = fit_room (length before) (size_of (block_of text)) (sym (number_of fits) ∙ y)
 
@@ -160,8 +171,18 @@ module _ (wave : ℕ) (text before : List ℕ) where
           block_done e =
               record {
                 answer = told_is;
-                words = e ∙ whole_in wave (block_of text) fair before room ∙ rw (eq-eqb r.number 0 y);
+                words = e ∙ whole_in wave (block_of text) fair before room ∙ rw (eq-eqb (number_in r) 0 y);
               }
+
+  module _ (h : wave ≤ wave_limit) {sizes : List ℕ} where
+    -- the first bad line
+    pub block_bad : {e : Refused} → Judges wave text blank sizes (Err e) → Translates wave text before before (Err e)
+    block_bad {e = e} j = bad h j (judged_refused wave 1 0 (lines_in text) j.answer)
+
+    -- or no room
+    pub block_full : {told : Told} → Judges wave text blank sizes told → number_in told ≡ 0 → {heads : List ℕ} {size : ℕ} → (heads ≡ starts_from 0 sizes) × (size ≡ sum_of sizes)
+        → {e : Refused} → Err e ≡ fitted (length before) size → Translates wave text before before (Err e)
+    block_full j z {size = size} s f = full h j z s f (fit_refused (length before) size f)
 
 -- ---- what an accepted text has
 
@@ -173,29 +194,29 @@ pub record Accepted (w room : ℕ) (text : List ℕ) : Type 0 where
   pub fits : size_of (block_of text) ≤ room
   pub told : translation w room text ≡ accepted (size_of (block_of text))
 
-fit_words : (room size : ℕ) → (fitted room size).number ≡ 0 → (size ≤ word_limit) × (fitted room size ≡ accepted size)
+fit_words : (room size : ℕ) → (number_in (fitted room size)) ≡ 0 → (size ≤ word_limit) × (fitted room size ≡ accepted size)
 unfolding fitted room_refused
 fit_words room size e = by (ltb word_limit size) refl (ltb room size) e
   where
     by : (s : Bool) → ltb word_limit size ≡ s → (t : Bool)
-        → (pick (eqb (s gives 54 else t gives 55 else 0) 0) (accepted size) (refused_at (s gives 54 else t gives 55 else 0) 0)).number ≡ 0
+        → (number_in (pick (eqb (s gives 54 else t gives 55 else 0) 0) (accepted size) (refused_at (s gives 54 else t gives 55 else 0) 0))) ≡ 0
         → (size ≤ word_limit) × (pick (eqb (s gives 54 else t gives 55 else 0) 0) (accepted size) (refused_at (s gives 54 else t gives 55 else 0) 0) ≡ accepted size)
     by true p t z = absurd (omega (arith, z))
     by false p true z = absurd (omega (arith, z))
     by false p false z = (ltb-false word_limit size p, refl)
 
-pub accepted_is : (wave room : ℕ) (text : List ℕ) → (translation wave room text).number ≡ 0 → Accepted wave room text
+pub accepted_is : (wave room : ℕ) (text : List ℕ) → (number_in (translation wave room text)) ≡ 0 → Accepted wave room text
 unfolding translation
-accepted_is wave room text e = by (ltb wave_limit wave) refl (eqb (judged wave 1 0 (lines_in text)).number 0) refl e
+accepted_is wave room text e = by (ltb wave_limit wave) refl (eqb (number_in (judged wave 1 0 (lines_in text))) 0) refl e
   where
-    by : (s : Bool) → ltb wave_limit wave ≡ s → (t : Bool) → eqb (judged wave 1 0 (lines_in text)).number 0 ≡ t
-        → (pick s (refused_at 3 0) (pick t (fitted room (size_of (block_of text))) (judged wave 1 0 (lines_in text)))).number ≡ 0 → Accepted wave room text
+    by : (s : Bool) → ltb wave_limit wave ≡ s → (t : Bool) → eqb (number_in (judged wave 1 0 (lines_in text))) 0 ≡ t
+        → (number_in (pick s (refused_at 3 0) (pick t (fitted room (size_of (block_of text))) (judged wave 1 0 (lines_in text))))) ≡ 0 → Accepted wave room text
     by true p t q z = absurd (omega (arith, z))
-    by false p false q z = absurd (eqb-false (judged wave 1 0 (lines_in text)).number 0 q z)
+    by false p false q z = absurd (eqb-false (number_in (judged wave 1 0 (lines_in text))) 0 q z)
     by false p true q z =
         record {
           wave = ltb-false wave_limit wave p;
-          fair = judged_fair wave text (eqb-true (judged wave 1 0 (lines_in text)).number 0 q);
+          fair = judged_fair wave text (eqb-true (number_in (judged wave 1 0 (lines_in text))) 0 q);
           words = (fit_words room (size_of (block_of text)) z).0;
           fits = fit_room room (size_of (block_of text)) z;
           told = rw (p, q) (fit_words room (size_of (block_of text)) z).1;

@@ -9,7 +9,7 @@ use Rattle.nest.specs.declared.Line.TheVariants.{Pulse, Repeat, End, Unshaped}
 use Rattle.block_line.specs.Line.{level_after}
 use Rattle.block_line.specs.Taking.{lines_from}
 use Rattle.block.specs.Text.{lines_in, block_of, judged}
-use Rattle.block.specs.declared.Translation.{Translation}
+use Rattle.text.specs.Told.{Told, number_in}
 
 -- ---- lines
 
@@ -37,10 +37,10 @@ abbrev pub counted : List Line → ℕ → List ℕ → List ℕ
 counted [] level sizes = sizes
 counted (line ∷ lines) level sizes = counted lines (level_after line level) (raised sizes level (words_for line))
 
-pub record Judges (wave : ℕ) (text before after : List ℕ) (r : Translation) : Type 0 where
+pub record Judges (wave : ℕ) (text before after : List ℕ) (r : Told) : Type 0 where
   pub answer : r ≡ judged wave 1 0 (lines_from text 0)
-  pub sizes : r.number ≡ 0 → after ≡ counted (lines_from text 0) 0 before
-  pub few : r.number ≡ 0 → sum_of after ≤ length text + 2
+  pub sizes : (number_in r) ≡ 0 → after ≡ counted (lines_from text 0) 0 before
+  pub few : (number_in r) ≡ 0 → sum_of after ≤ length text + 2
 
 -- ---- laying
 

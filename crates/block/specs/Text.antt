@@ -8,7 +8,7 @@ use Rattle.nest.specs.Block.{Block, block_in}
 use Rattle.nest.specs.Layout.{size_of, words_of}
 use Rattle.nest.specs.declared.Line.{Line}
 use Rattle.block_line.specs.Line.{line_of, line_number, level_after}
-use Rattle.block.specs.declared.Translation.{Translation}
+use Rattle.text.specs.Told.{Told, accepted, refused_at, number_in}
 
 -- ---- the text
 
@@ -21,16 +21,9 @@ block_of text = block_in (lines_in text) 0
 
 -- ---- what is told of it
 
--- "told: 0 line, 1 how many words"; after a refusal there are none
-abbrev pub refused_at : ℕ → ℕ → Translation
-refused_at number line = record { number = number; line = line; count = 0 }
-
-abbrev pub accepted : ℕ → Translation
-accepted count = record { number = 0; line = 0; count = count }
-
 -- "the first bad line with its number": lines from a line on, so many repeats being open;
 -- "A `repeat` never closed is 52 at the line after the last."
-unfoldable pub judged : ℕ → ℕ → ℕ → List Line → Translation
+unfoldable pub judged : ℕ → ℕ → ℕ → List Line → Told
 judged wave at level [] = pick (eqb level 0) (accepted 0) (refused_at 52 at)
 judged wave at level (line ∷ lines) =
     pick (eqb (line_number wave level line) 0) (judged wave (at + 1) (level_after line level) lines) (refused_at (line_number wave level line) at)
@@ -39,16 +32,16 @@ judged wave at level (line ∷ lines) =
 unfoldable pub room_refused : ℕ → ℕ → ℕ
 room_refused room size = ltb word_limit size gives 54 else ltb room size gives 55 else 0
 
-unfoldable pub fitted : ℕ → ℕ → Translation
+unfoldable pub fitted : ℕ → ℕ → Told
 fitted room size = pick (eqb (room_refused room size) 0) (accepted size) (refused_at (room_refused room size) 0)
 
 -- "Refusals: 3 first", then the lines, then what all of it comes to
-unfoldable pub translation : ℕ → ℕ → List ℕ → Translation
+unfoldable pub translation : ℕ → ℕ → List ℕ → Told
 translation wave room text =
     pick (ltb wave_limit wave) (refused_at 3 0)
-    (pick (eqb (judged wave 1 0 (lines_in text)).number 0) (fitted room (size_of (block_of text))) (judged wave 1 0 (lines_in text)))
+    (pick (eqb (number_in (judged wave 1 0 (lines_in text))) 0) (fitted room (size_of (block_of text))) (judged wave 1 0 (lines_in text)))
 
 -- what `block` answers, and what it leaves in the buffer: "A refusal leaves the lent words untouched."
-pub record Translates (wave : ℕ) (text before after : List ℕ) (r : Translation) : Type 0 where
+pub record Translates (wave : ℕ) (text before after : List ℕ) (r : Told) : Type 0 where
   pub answer : r ≡ translation wave (length before) text
-  pub words : after ≡ pick (eqb r.number 0) (words_of (block_of text) ++ drop (size_of (block_of text)) before) before
+  pub words : after ≡ pick (eqb (number_in r) 0) (words_of (block_of text) ++ drop (size_of (block_of text)) before) before

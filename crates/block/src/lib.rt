@@ -5,67 +5,40 @@
 ghost use Rattle.std.specs.Prelude.{◌≡◌, true, false, suc, ◌≤◌, ◌<◌, ◌^◌, length};
 ghost use Rattle.nest.specs.Block.{nest_limit};
 ghost use Rattle.nest.specs.Layout.{sum_of, starts_from, laid_in};
-ghost use Rattle.block.specs.Text.{refused_at, accepted, block_of, fitted, Translates};
+ghost use Rattle.text.specs.Told.{refused_at};
+ghost use Rattle.block.specs.Text.{block_of, fitted, Translates};
 ghost use Rattle.block.specs.Steps.{is_end, words_for, Judges, ItemAsks, Moved, BlockAsks, Laid, CanStart};
 
 use block_line::{level_after, line_number, take_line};
-use instruction::QuadSamples;
+use instruction::{Numbered, QuadSamples};
 use nest::{Line, Nest, close_repeat, open_repeat, put_park, put_pulse, put_sync};
-use sequence::Sequence;
+use sequence::{BadInput, Sequence};
+use text::Refused;
 
-// What is told of a text: 0 and how many words it has, or the number of a refusal and its line.
-#[derive(Clone, Copy)]
-pub struct Translation {
-    pub number: u64,
-    pub line: u64,
-    pub count: u64,
+// So many words, or 54 or 55.
+fn fit(size: usize, room: usize) -> Result<u64, Refused>
+    ensures { result ≡ fitted room size }
+{
+    let count = size as u64;
+    if Sequence::WORDS < count {
+        return refused(Nest::TOO_MANY_WORDS, 0);
+    }
+    if room < size {
+        return refused(Nest::NO_ROOM, 0);
+    }
+    Ok(count)
 }
 
-impl Translation {
-    fn refused(number: u64, line: u64) -> Translation
-        ensures { result ≡ refused_at number line }
-    {
-        Translation {
-            number,
-            line,
-            count: 0,
-        }
-    }
-
-    fn accepted(count: u64) -> Translation
-        ensures { result ≡ accepted count }
-    {
-        Translation {
-            number: 0,
-            line: 0,
-            count,
-        }
-    }
-
-    // 54, 55, or so many words.
-    fn fit(size: usize, room: usize) -> Translation
-        ensures { result ≡ fitted room size }
-    {
-        let count = size as u64;
-        if Sequence::WORDS < count {
-            return Translation::refused(Nest::TOO_MANY_WORDS, 0);
-        }
-        if room < size {
-            return Translation::refused(Nest::NO_ROOM, 0);
-        }
-        Translation::accepted(count)
-    }
+fn refused(number: u64, line: u64) -> Result<u64, Refused>
+    ensures { result ≡ refused_at number line }
+{
+    Err(Refused { number, line })
 }
 
 fn is_end(line: Line) -> bool
     ensures { result ≡ is_end line }
 {
-    match line {
-        Line::Pulse(_) => false,
-        Line::Repeat(_) => false,
-        Line::End => true,
-        Line::Unshaped => false,
-    }
+    matches!(line, Line::End)
 }
 
 // How many words a line has at its level.
@@ -80,20 +53,21 @@ fn words_for(line: Line) -> usize
     }
 }
 
-// The first bad line, or how many words each level has.
-fn judge(text: &[u8], wave: QuadSamples, sizes: &mut [usize; Nest::LEVELS]) -> Translation
+// The first bad line, or how many words each level has; none is told of yet.
+fn judge(text: &[u8], wave: QuadSamples, sizes: &mut [usize; Nest::LEVELS]) -> Result<u64, Refused>
     requires { (length sizes.old ≡ suc nest_limit) × (sum_of sizes.old ≤ 2) }
     ensures { Judges wave.0 text.now sizes.old sizes.new result }
 {
     let mut at: usize = 0;
     let mut row: u64 = 1;
     let mut level: usize = 0;
+    // No index is counted: where the next line stands is found on the way.
     while at < text.len() {
         let taken = take_line(text, at);
         let line = taken.line;
         let number = line_number(line, level, wave);
         if number != 0 {
-            return Translation::refused(number, row);
+            return refused(number, row);
         }
         sizes[level] += words_for(line);
         level = level_after(line, level);
@@ -101,9 +75,9 @@ fn judge(text: &[u8], wave: QuadSamples, sizes: &mut [usize; Nest::LEVELS]) -> T
         row += 1;
     }
     if level != 0 {
-        return Translation::refused(Nest::UNPAIRED, row);
+        return refused(Nest::UNPAIRED, row);
     }
-    Translation::accepted(0)
+    Ok(0)
 }
 
 // One level behind the other: where each begins, and how many words there are.
@@ -112,12 +86,10 @@ fn stack_levels(heads: &mut [usize; Nest::LEVELS]) -> usize
     ensures { (heads.new ≡ starts_from 0 heads.old) × (result ≡ sum_of heads.old) }
 {
     let mut place: usize = 0;
-    let mut level: usize = 0;
-    while level < Nest::LEVELS {
-        let size = heads[level];
-        heads[level] = place;
+    for head in heads.iter_mut() {
+        let size = *head;
+        *head = place;
         place += size;
-        level += 1;
     }
     place
 }
@@ -164,6 +136,7 @@ fn lay_block(
     ensures { Laid text.now at level heads.old words.old result heads.new words.new }
 {
     let mut i = at;
+    // No index is counted: where the next line stands is found on the way.
     while i < text.len() {
         let taken = take_line(text, i);
         let line = taken.line;
@@ -186,23 +159,18 @@ fn lay(text: &[u8], heads: &mut [usize; Nest::LEVELS], words: &mut [u64])
     put_park(heads, words);
 }
 
-// A block text as words: all of them from the front of the buffer, or a refusal and the buffer as it was.
-pub fn block(text: &[u8], wave: QuadSamples, words: &mut [u64]) -> Translation
+// A block text as words: all of them from the front of the buffer and how many, or a refusal and the buffer as it was.
+pub fn block(text: &[u8], wave: QuadSamples, words: &mut [u64]) -> Result<u64, Refused>
     ensures { Translates wave.0 text.now words.old words.new result }
 {
     if Sequence::WAVE.0 < wave.0 {
-        return Translation::refused(Sequence::TOO_MUCH_WAVE, 0);
+        return refused(BadInput::TooMuchWave.number(), 0);
     }
     let mut heads = [0usize; Nest::LEVELS];
     heads[0] = 2;
-    let told = judge(text, wave, &mut heads);
-    if told.number != 0 {
-        return told;
-    }
+    judge(text, wave, &mut heads)?;
     let size = stack_levels(&mut heads);
-    let fitted = Translation::fit(size, words.len());
-    if fitted.number == 0 {
-        lay(text, &mut heads, words);
-    }
-    fitted
+    let count = fit(size, words.len())?;
+    lay(text, &mut heads, words);
+    Ok(count)
 }

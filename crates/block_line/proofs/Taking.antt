@@ -7,13 +7,14 @@ use mathlib.Core.List.{List, [], ◌∷◌, ◌++◌, map, append_assoc}
 use native.Mathlib.Omega.{arith}
 use lib.ListN.{length, drop, length-append, length-drop}
 use lib.Seq.{drop-drop}
+use Rattle.std.specs.Prelude.{Option, Some, None}
 use Rattle.instruction.specs.Bits.{pick}
 use Rattle.text.specs.Cut.{tab, line_feed, before, rows_in, place_of, starts_with, has}
 use Rattle.text.specs.Line.{decimal}
 use Rattle.text.specs.Number.{numbers, counted_then}
 use Rattle.text.specs.declared.Counted.{Counted}
 use Rattle.text.proofs.Alike.{starts_text}
-use Rattle.text.proofs.Back.{decimal_free, has_append, NumberThen, then_read}
+use Rattle.text.proofs.Back.{decimal_free, has_append, NumberThen, then_read, then_none}
 use Rattle.text.proofs.Bools.{never}
 use Rattle.text.proofs.Cuts.{behind, behind_piece, place_past}
 use Rattle.nest.specs.declared.Line.{Line}
@@ -98,14 +99,14 @@ module _ (name text : List ℕ) (at : ℕ) (e : starts_with name (drop at text) 
   name_inside h = omega (arith, h, ap length name_text, length-append name (drop (at + length name) text), length-drop at text)
 
 -- which of the two names stands there
-pub held_play : (bs : List ℕ) → starts_with play_name bs ≡ true → 0 ≡ held_in bs
+pub held_play : (bs : List ℕ) → starts_with play_name bs ≡ true → Some 0 ≡ held_in bs
 held_play bs p = rw p
 
 module _ (bs : List ℕ) (p : starts_with play_name bs ≡ false) where
-  pub held_hold : starts_with hold_name bs ≡ true → 1 ≡ held_in bs
+  pub held_hold : starts_with hold_name bs ≡ true → Some 1 ≡ held_in bs
   held_hold q = rw (p, q)
 
-  pub held_none : starts_with hold_name bs ≡ false → 2 ≡ held_in bs
+  pub held_none : starts_with hold_name bs ≡ false → None ≡ held_in bs
   held_none q = rw (p, q)
 
 -- ---- no shape
@@ -114,13 +115,13 @@ module _ (text : List ℕ) (at : ℕ) (h : at < length text) {t : Taken} (u : t 
   none_taken : {rest : List Line} → lines_from text at ≡ Unshaped ∷ rest → t ≡ taken_at text at
   none_taken e = u ∙ taken_is text at h e refl
 
-  pub nameless : 2 ≡ held_in (drop at text) → starts_with repeat_name (drop at text) ≡ false → starts_with end_name (drop at text) ≡ false → t ≡ taken_at text at
+  pub nameless : None ≡ held_in (drop at text) → starts_with repeat_name (drop at text) ≡ false → starts_with end_name (drop at text) ≡ false → t ≡ taken_at text at
   nameless z r s = by (first_line text at h)
     where
       by : First text at → t ≡ taken_at text at
       by (unshaped rest e) = none_taken e
-      by (playing a b more k l e) = absurd (omega (arith, z ∙ ap held_in e))
-      by (holding a b more k l e) = absurd (omega (arith, z ∙ ap held_in e))
+      by (playing a b more k l e) = let f : ◌≡◌ {A = Option ℕ} (Some 0) None = sym (z ∙ ap held_in e) in cc
+      by (holding a b more k l e) = let f : ◌≡◌ {A = Option ℕ} (Some 1) None = sym (z ∙ ap held_in e) in cc
       by (repeating a more k e) = never (sym (ap (starts_with repeat_name) e) ∙ r)
       by (ending more e) = never (sym (ap (starts_with end_name) e) ∙ s)
 
@@ -147,26 +148,26 @@ module _ (text : List ℕ) (at : ℕ) (e : starts_with repeat_name (drop at text
   at_repeat : drop at text ≡ repeat_name ++ drop (at + 7) text
   at_repeat = name_text repeat_name text at e
 
-  module _ {r : Counted} (c : r ≡ counted_then line_feed (at + 7) text) where
+  pub repeat_none : None ≡ counted_then line_feed (at + 7) text → {t : Taken} → t ≡ taken Unshaped (length text) → t ≡ taken_at text at
+  repeat_none c {t = t} u = by (first_line text at (omega (arith, repeat_inside)))
+    where
+      by : First text at → t ≡ taken_at text at
+      by (unshaped rest f) = none_taken text at (omega (arith, repeat_inside)) u f
+      by (playing a b more k l f) = never (sym e ∙ ap (starts_with repeat_name) f)
+      by (holding a b more k l f) = never (sym e ∙ ap (starts_with repeat_name) f)
+      by (repeating a more k f) = absurd (then_none line_feed (at + 7) text repeat_inside refl c a more k (sym (drop-drop 7 at text) ∙ ap (drop 7) f))
+      by (ending more f) = never (sym e ∙ ap (starts_with repeat_name) f)
+
+  module _ {r : Counted} (c : Some r ≡ counted_then line_feed (at + 7) text) where
     count : NumberThen line_feed (at + 7) text r
     count = then_read line_feed (at + 7) text repeat_inside refl c
 
-    pub repeat_none : r.plain ≡ false → {t : Taken} → t ≡ taken Unshaped (length text) → t ≡ taken_at text at
-    repeat_none p {t = t} u = by (first_line text at (omega (arith, repeat_inside)))
-      where
-        by : First text at → t ≡ taken_at text at
-        by (unshaped rest f) = none_taken text at (omega (arith, repeat_inside)) u f
-        by (playing a b more k l f) = never (sym e ∙ ap (starts_with repeat_name) f)
-        by (holding a b more k l f) = never (sym e ∙ ap (starts_with repeat_name) f)
-        by (repeating a more k f) = absurd (count.none p a more k (sym (drop-drop 7 at text) ∙ ap (drop 7) f))
-        by (ending more f) = never (sym e ∙ ap (starts_with repeat_name) f)
-
-    pub repeat_taken : r.plain ≡ true → taken (Repeat r.value) r.end ≡ taken_at text at
-    repeat_taken p = taken_is text at (omega (arith, repeat_inside)) lines (count.ends p ∙ ap (λ (k : ℕ). k + 1) (sym feed_is))
+    pub repeat_taken : taken (Repeat r.value) r.end ≡ taken_at text at
+    repeat_taken = taken_is text at (omega (arith, repeat_inside)) lines (count.ends ∙ ap (λ (k : ℕ). k + 1) (sym feed_is))
       where
         lines : lines_from text at ≡ Repeat r.value ∷ lines_from text r.end
         lines =
-            ap (λ (s : List ℕ). map line_of (rows_in s)) (at_repeat ∙ ap (λ (l : List ℕ). repeat_name ++ l) (count.found p))
+            ap (λ (s : List ℕ). map line_of (rows_in s)) (at_repeat ∙ ap (λ (l : List ℕ). repeat_name ++ l) count.found)
             ∙ repeat_read r.value (drop r.end text) count.small
 
         feed_is : place_of line_feed at text ≡ place_of line_feed (at + 7) text
@@ -182,21 +183,23 @@ record Begun (text : List ℕ) (at ta : ℕ) : Type 0 where
   there : drop at text ≡ name ++ drop (at + 5) text
   read : (a b : ℕ) (more : List ℕ) → a < numbers → b < numbers → map line_of (rows_in (name ++ two_numbers a b more)) ≡ Pulse (pulse_of ta (a ∷ b ∷ [])) ∷ map line_of (rows_in more)
 
-begun : (text : List ℕ) (at ta : ℕ) → ta ≡ held_in (drop at text) → (ta ≡ 2 → ⊥) → Begun text at ta
-begun text at ta e n = by (starts_with play_name (drop at text)) refl (starts_with hold_name (drop at text)) refl e
+begun : (text : List ℕ) (at ta : ℕ) → Some ta ≡ held_in (drop at text) → Begun text at ta
+begun text at ta e = by (starts_with play_name (drop at text)) refl (starts_with hold_name (drop at text)) refl e
   where
-    by : (p : Bool) → starts_with play_name (drop at text) ≡ p → (q : Bool) → starts_with hold_name (drop at text) ≡ q → ta ≡ pick p 0 (pick q 1 2) → Begun text at ta
+    by : (p : Bool) → starts_with play_name (drop at text) ≡ p → (q : Bool) → starts_with hold_name (drop at text) ≡ q → Some ta ≡ pick p (Some 0) (pick q (Some 1) None) → Begun text at ta
     by true f q g z =
-        subst (Begun text at) (sym z)
+        let z' : ta ≡ 0 = cc in
+        subst (Begun text at) (sym z')
         (record { name = play_name; free = refl; inside = name_inside play_name text at f (omega arith); there = name_text play_name text at f; read = play_read })
     by false f true g z =
-        subst (Begun text at) (sym z)
+        let z' : ta ≡ 1 = cc in
+        subst (Begun text at) (sym z')
         (record { name = hold_name; free = refl; inside = name_inside hold_name text at g (omega arith); there = name_text hold_name text at g; read = hold_read })
-    by false f false g z = absurd (n z)
+    by false f false g z = cc
 
-module _ (text : List ℕ) (at ta : ℕ) (s : (ta ≡ held_in (drop at text)) × (ta ≡ 2 → ⊥)) where
+module _ (text : List ℕ) (at ta : ℕ) (s : Some ta ≡ held_in (drop at text)) where
   abbrev start : Begun text at ta
-  start = begun text at ta s.0 s.1
+  start = begun text at ta s
 
   pub pulse_inside : at + 5 ≤ length text
   pulse_inside = start.inside
@@ -213,41 +216,41 @@ module _ (text : List ℕ) (at ta : ℕ) (s : (ta ≡ held_in (drop at text)) ×
       by (unshaped rest f) = none_taken text at some u f
       by (playing a b more k l f) = absurd (n a b more k l (sym (drop-drop 5 at text) ∙ ap (drop 5) f))
       by (holding a b more k l f) = absurd (n a b more k l (sym (drop-drop 5 at text) ∙ ap (drop 5) f))
-      by (repeating a more k f) = absurd (s.1 (s.0 ∙ ap held_in f))
-      by (ending more f) = absurd (s.1 (s.0 ∙ ap held_in f))
+      by (repeating a more k f) = let g : ◌≡◌ {A = Option ℕ} (Some ta) None = s ∙ ap held_in f in cc
+      by (ending more f) = let g : ◌≡◌ {A = Option ℕ} (Some ta) None = s ∙ ap held_in f in cc
 
-  module _ {r : Counted} (c : r ≡ counted_then tab (at + 5) text) where
+  -- no address
+  pub address_none : None ≡ counted_then tab (at + 5) text → {t : Taken} → t ≡ taken Unshaped (length text) → t ≡ taken_at text at
+  address_none c u = unmade (λ a b more k l f. then_none tab (at + 5) text pulse_inside refl c a (one_number b more) k f) u
+
+  module _ {r : Counted} (c : Some r ≡ counted_then tab (at + 5) text) where
     address : NumberThen tab (at + 5) text r
     address = then_read tab (at + 5) text pulse_inside refl c
-
-    -- no address
-    pub address_none : r.plain ≡ false → {t : Taken} → t ≡ taken Unshaped (length text) → t ≡ taken_at text at
-    address_none p u = unmade (λ a b more k l f. address.none p a (one_number b more) k f) u
 
     pub address_inside : r.end ≤ length text
     address_inside = address.inside
 
-    module _ (p : r.plain ≡ true) {r' : Counted} (d : r' ≡ counted_then line_feed r.end text) where
+    -- an address, and no count
+    pub count_none : None ≡ counted_then line_feed r.end text → {t : Taken} → t ≡ taken Unshaped (length text) → t ≡ taken_at text at
+    count_none d u = unmade (λ a b more k l f. then_none line_feed r.end text address_inside refl d b more l (rest a b more f)) u
+      where
+        rest : (a b : ℕ) (more : List ℕ) → drop (at + 5) text ≡ two_numbers a b more → drop r.end text ≡ one_number b more
+        rest a b more f =
+            sym (behind_piece tab (decimal r.value) (drop r.end text) (decimal_free tab r.value refl))
+            ∙ ap (behind tab) (sym address.found ∙ f)
+            ∙ behind_piece tab (decimal a) (one_number b more) (decimal_free tab a refl)
+
+    module _ {r' : Counted} (d : Some r' ≡ counted_then line_feed r.end text) where
       count_there : NumberThen line_feed r.end text r'
       count_there = then_read line_feed r.end text address_inside refl d
 
-      -- an address, and no count
-      pub count_none : r'.plain ≡ false → {t : Taken} → t ≡ taken Unshaped (length text) → t ≡ taken_at text at
-      count_none q u = unmade (λ a b more k l f. count_there.none q b more l (rest a b more f)) u
-        where
-          rest : (a b : ℕ) (more : List ℕ) → drop (at + 5) text ≡ two_numbers a b more → drop r.end text ≡ one_number b more
-          rest a b more f =
-              sym (behind_piece tab (decimal r.value) (drop r.end text) (decimal_free tab r.value refl))
-              ∙ ap (behind tab) (sym (address.found p) ∙ f)
-              ∙ behind_piece tab (decimal a) (one_number b more) (decimal_free tab a refl)
-
-      pub pulse_taken : r'.plain ≡ true → {line : Line} → line ≡ Pulse (pulse_of ta (r.value ∷ r'.value ∷ [])) → taken line r'.end ≡ taken_at text at
-      pulse_taken q e = ap (λ (l : Line). taken l r'.end) e ∙ taken_is text at some lines (count_there.ends q ∙ ap (λ (k : ℕ). k + 1) (sym feed_is))
+      pub pulse_taken : {line : Line} → line ≡ Pulse (pulse_of ta (r.value ∷ r'.value ∷ [])) → taken line r'.end ≡ taken_at text at
+      pulse_taken e = ap (λ (l : Line). taken l r'.end) e ∙ taken_is text at some lines (count_there.ends ∙ ap (λ (k : ℕ). k + 1) (sym feed_is))
         where
           lines : lines_from text at ≡ Pulse (pulse_of ta (r.value ∷ r'.value ∷ [])) ∷ lines_from text r'.end
           lines =
               ap (λ (l : List ℕ). map line_of (rows_in l))
-              (start.there ∙ ap (λ (l : List ℕ). start.name ++ l) (address.found p ∙ ap (λ (l : List ℕ). decimal r.value ++ (tab ∷ l)) (count_there.found q)))
+              (start.there ∙ ap (λ (l : List ℕ). start.name ++ l) (address.found ∙ ap (λ (l : List ℕ). decimal r.value ++ (tab ∷ l)) count_there.found))
               ∙ start.read r.value r'.value (drop r'.end text) address.small count_there.small
 
           feed_is : place_of line_feed at text ≡ place_of line_feed r.end text
@@ -255,4 +258,4 @@ module _ (text : List ℕ) (at ta : ℕ) (s : (ta ≡ held_in (drop at text)) ×
               place_past line_feed start.name text at (at + 5) start.free (omega (arith, pulse_inside)) pulse_inside start.there
               ∙ place_past line_feed (decimal r.value ++ (tab ∷ [])) text (at + 5) r.end
               (has_append line_feed (decimal r.value) (tab ∷ []) (decimal_free line_feed r.value refl) refl) pulse_inside address_inside
-              (address.found p ∙ sym (append_assoc (decimal r.value) (tab ∷ []) (drop r.end text)))
+              (address.found ∙ sym (append_assoc (decimal r.value) (tab ∷ []) (drop r.end text)))

@@ -1,6 +1,6 @@
 -- Lines that are taken from a text one after the other: it carries the code, and needs no belief.
 -- A line of one of the four shapes is read once, and the next one starts behind it; behind another none is read.
-use Rattle.std.specs.Prelude.{ℕ, ◌+◌, List, [], ◌∷◌, ◌++◌, map, length, drop}
+use Rattle.std.specs.Prelude.{ℕ, ◌+◌, List, [], ◌∷◌, ◌++◌, map, length, drop, Option, Some, None}
 use Rattle.instruction.specs.Bits.{pick}
 use Rattle.text.specs.Cut.{tab, line_feed, rows_in, row_at, place_of, starts_with}
 use Rattle.text.specs.Line.{letters}
@@ -45,6 +45,6 @@ repeat_name = letters "repeat" ++ (tab ∷ [])
 abbrev pub end_name : List ℕ
 end_name = letters "end" ++ (line_feed ∷ [])
 
--- T/A, where a text starts with those of a play or of a hold; else 2
-abbrev pub held_in : List ℕ → ℕ
-held_in bs = pick (starts_with play_name bs) 0 (pick (starts_with hold_name bs) 1 2)
+-- T/A, where a text starts with those of a play or of a hold
+abbrev pub held_in : List ℕ → Option ℕ
+held_in bs = pick (starts_with play_name bs) (Some 0) (pick (starts_with hold_name bs) (Some 1) None)

@@ -2,13 +2,13 @@
 // The judge asks for the number before anything is written; the translator needs only what a line says.
 #![tactic(auto)]
 
-ghost use Rattle.std.specs.Prelude.{◌≡◌, [], ◌∷◌, true, ℕ, ◌≤◌, ◌<◌, length, drop};
+ghost use Rattle.std.specs.Prelude.{◌≡◌, [], ◌∷◌, true, ℕ, ◌≤◌, ◌<◌, length, drop, Some};
 ghost use Rattle.text.specs.Cut.{starts_with};
 ghost use Rattle.nest.specs.Block.{nest_limit, pulse_number};
 ghost use Rattle.block_line.specs.Line.{pulse_of, line_number, level_after};
 ghost use Rattle.block_line.specs.Taking.{taken, taken_at, held_in, repeat_name};
 
-use instruction::{Body, EngineOp, QuadSamples, Refusal, WaveformFields};
+use instruction::{Body, EngineOp, QuadSamples, Refusal, WaveformFields, told};
 use laid::widths::waveform_fits;
 use nest::{Line, Nest};
 use sequence::Sequence;
@@ -29,12 +29,10 @@ impl Taken {
 
     const END: usize = 4;
 
-    // T/A of a play, of a hold, and of neither.
+    // T/A of a play and of a hold.
     const PLAYED: u64 = 0;
 
     const HELD: u64 = 1;
-
-    const NEITHER: u64 = 2;
 
     // A line without a shape: nothing is read behind it.
     fn unshaped(text: &[u8]) -> Taken
@@ -59,32 +57,30 @@ fn pulse(ta: u64, address: u64, count: u64) -> Line
 }
 
 // T/A, where the name of a play or hold stands at a place.
-fn held_at(text: &[u8], at: usize) -> u64
+fn held_at(text: &[u8], at: usize) -> Option<u64>
     requires { at ≤ length text.now }
     ensures { result ≡ held_in (drop at text.now) }
 {
     if starts_with(text, at, b"play\t") {
-        return Taken::PLAYED;
+        return Some(Taken::PLAYED);
     }
     if starts_with(text, at, b"hold\t") {
-        return Taken::HELD;
+        return Some(Taken::HELD);
     }
-    Taken::NEITHER
+    None
 }
 
 // A play or hold whose name stands at a place.
 fn take_pulse(text: &[u8], at: usize, ta: u64) -> Taken
-    requires { (ta ≡ held_in (drop at text.now)) × (ta ≡ 2 → ⊥) }
+    requires { Some ta ≡ held_in (drop at text.now) }
     ensures { result ≡ taken_at text.now at }
 {
-    let address = number_then(text, at + Taken::PULSE, b'\t');
-    if !address.plain {
+    let Some(address) = number_then(text, at + Taken::PULSE, b'\t') else {
         return Taken::unshaped(text);
-    }
-    let count = number_then(text, address.end, b'\n');
-    if !count.plain {
+    };
+    let Some(count) = number_then(text, address.end, b'\n') else {
         return Taken::unshaped(text);
-    }
+    };
     let line = pulse(ta, address.value, count.value);
     Taken {
         line,
@@ -97,13 +93,12 @@ fn take_repeat(text: &[u8], at: usize) -> Taken
     requires { starts_with repeat_name (drop at text.now) ≡ true }
     ensures { result ≡ taken_at text.now at }
 {
-    let count = number_then(text, at + Taken::REPEAT, b'\n');
-    if !count.plain {
-        return Taken::unshaped(text);
-    }
-    Taken {
-        line: Line::Repeat(count.value),
-        next: count.end,
+    match number_then(text, at + Taken::REPEAT, b'\n') {
+        Some(count) => Taken {
+            line: Line::Repeat(count.value),
+            next: count.end,
+        },
+        None => Taken::unshaped(text),
     }
 }
 
@@ -112,8 +107,7 @@ pub fn take_line(text: &[u8], at: usize) -> Taken
     requires { at < length text.now }
     ensures { result ≡ taken_at text.now at }
 {
-    let ta = held_at(text, at);
-    if ta != Taken::NEITHER {
+    if let Some(ta) = held_at(text, at) {
         return take_pulse(text, at, ta);
     }
     if starts_with(text, at, b"repeat\t") {
@@ -135,11 +129,11 @@ fn pulse_number(f: WaveformFields, wave: QuadSamples) -> u64
     if !waveform_fits(f) {
         return Refusal::TOO_WIDE;
     }
-    let form = f.form();
+    let form = told(f.form());
     if form != 0 {
         return form;
     }
-    Sequence::placing(wave, 0, Body::Waveform(f))
+    told(Sequence::placing(wave, 0, Body::Waveform(f)))
 }
 
 // 51, 53 or 0, with so many repeats open.
@@ -180,12 +174,7 @@ pub fn level_after(line: Line, level: usize) -> usize
     match line {
         Line::Pulse(_) => level,
         Line::Repeat(_) => level + 1,
-        Line::End => {
-            if level == 0 {
-                return 0;
-            }
-            level - 1
-        }
+        Line::End => level.saturating_sub(1),
         Line::Unshaped => level,
     }
 }

@@ -1,19 +1,66 @@
 -- `one-answer-..`, for each public function: its contract leaves one answer, and one content of what is lent to it.
 -- Assumes nothing.
-use mathlib.Core.Path.{refl, sym, ◌∙◌}
+use mathlib.Core.Path.{refl, sym, ap, ◌≡◌, ◌∙◌}
 use mathlib.Core.List.{List, []}
 use Prim.Native.Nat.{ℕ}
+use native.Mathlib.Omega.{arith}
+use Rattle.std.specs.Prelude.{Result}
+use Rattle.std.specs.declared.result.Result.TheVariants.{Ok, Err}
+use Rattle.instruction.specs.Form.{number_of, form_numbered, form_told_apart}
+use Rattle.instruction.specs.declared.BadForm.{BadForm}
+use Rattle.instruction.specs.declared.BadForm.TheVariants.{NoWriteFlag, NoSuchOp, UselessField, TooShort, Askew, WrongNco, WidePhase, WideCount}
+use Rattle.sequence.specs.Numbers.{input_number, input_numbered, input_told_apart, place_number, place_numbered, place_told_apart, fault_number, fault_numbered, fault_told_apart}
+use Rattle.sequence.specs.declared.BadInput.{BadInput}
+use Rattle.sequence.specs.declared.Misplaced.{Misplaced}
+use Rattle.sequence.specs.declared.Fault.{Fault}
+use Rattle.sequence.specs.declared.Fault.TheVariants.{PastTheEnd, StackFull, StackEmpty}
+use Rattle.sequence.proofs.Laws.{input_some, place_some}
+use Rattle.jumps.specs.declared.Arrays.{Arrays}
 use Rattle.jumps.specs.State.{Did, state_of}
-use Rattle.jumps.specs.Lent.{Done}
+use Rattle.jumps.specs.Lent.{Done, DoneIn, state_in, arrays_of}
 use Rattle.jumps.specs.Jumps.{call_of, return_of}
 use Rattle.jumps.specs.declared.Stepped.{Stepped}
 use Rattle.look.specs.Closed.{holds, fails}
 use Rattle.verdict.proofs.Unique as unique
 use Rattle.listing_reader.proofs.Unique as read_back_lem
-use Rattle.demands.specs.Answers.{One, OneEqual, OneRead, OneWrite, OneRun, OneCheck, OneList, OneReadListing, OneStep, OneCall, OneReturn, OneMessage, OneDispatch, OneLook, OneWalk, OneSeen}
+use Rattle.demands.specs.Answers.{One, OneEqual, OneTold, OneForm, OneInput, OnePlace, OneFault, OneRead, OneWrite, OneRun, OneCheck, OneList, OneReadListing, OneStep, OneCall, OneReturn, OneCallLent, OneReturnLent, OneMessage, OneDispatch, OneLook, OneWalk, OneSeen}
 
 pub one_answer_equation : OneEqual
 one_answer_equation A d r r' p q = p ∙ sym q
+
+-- no two of a kind have one number, and none has 0
+one_told : (E : Type 0) (number : E → ℕ) (numbered : ℕ → E) → ((bad : E) → numbered (number bad) ≡ bad) → ((bad : E) → number bad ≡ 0 → ⊥) → OneTold E number
+one_told E number numbered apart some n (Ok a) (Ok b) p q = refl
+one_told E number numbered apart some n (Ok a) (Err bad) p q = absurd (some bad (q ∙ sym p))
+one_told E number numbered apart some n (Err bad) (Ok a) p q = absurd (some bad (p ∙ sym q))
+one_told E number numbered apart some n (Err bad) (Err bad') p q = ap Err (sym (apart bad) ∙ ap numbered (p ∙ sym q) ∙ apart bad')
+
+form_some : (bad : BadForm) → number_of bad ≡ 0 → ⊥
+form_some NoWriteFlag e = omega (arith, e)
+form_some NoSuchOp e = omega (arith, e)
+form_some UselessField e = omega (arith, e)
+form_some TooShort e = omega (arith, e)
+form_some Askew e = omega (arith, e)
+form_some WrongNco e = omega (arith, e)
+form_some WidePhase e = omega (arith, e)
+form_some WideCount e = omega (arith, e)
+
+fault_some : (bad : Fault) → fault_number bad ≡ 0 → ⊥
+fault_some PastTheEnd e = omega (arith, e)
+fault_some StackFull e = omega (arith, e)
+fault_some StackEmpty e = omega (arith, e)
+
+pub one_answer_form : OneForm
+one_answer_form = one_told BadForm number_of form_numbered form_told_apart form_some
+
+pub one_answer_input : OneInput
+one_answer_input = one_told BadInput input_number input_numbered input_told_apart input_some
+
+pub one_answer_place : OnePlace
+one_answer_place = one_told Misplaced place_number place_numbered place_told_apart place_some
+
+pub one_answer_fault : OneFault
+one_answer_fault = one_told Fault fault_number fault_numbered fault_told_apart fault_some
 
 pub one_answer_read : OneRead
 one_answer_read rules word r r' p q = p ∙ sym q
@@ -62,6 +109,18 @@ one_answer_call s returns counters to = one_jump (λ ws ts. call_of (state_of s 
 
 pub one_answer_return : OneReturn
 one_answer_return s returns counters = one_jump (λ ws ts. return_of (state_of s returns counters ws ts))
+
+one_lent : (d : Did) → One (Stepped × Arrays) (λ r. DoneIn d r.0 r.1)
+one_lent d r r' p q =
+    let end = p.end ∙ sym q.end in
+    let state = p.state ∙ sym q.state in
+    λ i. (record { end = end i; core = (state i).core }, arrays_of (state i))
+
+pub one_answer_call_lent : OneCallLent
+one_answer_call_lent s arrays to = one_lent (call_of (state_in s arrays) to)
+
+pub one_answer_return_lent : OneReturnLent
+one_answer_return_lent s arrays = one_lent (return_of (state_in s arrays))
 
 pub one_answer_message : OneMessage
 one_answer_message messages s r r' p q =

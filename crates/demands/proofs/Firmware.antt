@@ -15,9 +15,8 @@ use Rattle.instruction.specs.declared.Instruction.{Instruction}
 use Rattle.instruction.specs.declared.Refusal.{Refusal}
 use Rattle.instruction.specs.declared.Body.{Body}
 use Rattle.instruction.specs.declared.Body.TheVariants as body
-use Rattle.reader.specs.Reading.{reading_of, number_of}
-use Rattle.reader.specs.declared.Reading.{Reading}
-use Rattle.reader.specs.declared.Reading.TheVariants.{Accepted, Refused}
+use Rattle.reader.specs.Reading.{Reading, reading_of, number_of}
+use Rattle.std.specs.declared.result.Result.TheVariants.{Ok, Err}
 use Rattle.reader.proofs.Alike.{reads_alike, reads_alone}
 use Rattle.writer.proofs.Alike.{writes_alike, writes_alone}
 use Rattle.sequence.specs.Placing.{placing_of}
@@ -67,8 +66,8 @@ word_alike wave words a h = ap (refused_as wave (length words) (drop (a + 1) wor
     w = get_or words a 0
 
     not_24 : (q : Reading) → ((refused_as wave (length words) (drop (a + 1) words) q).number ≡ 24 → ⊥) → number_of q ≡ 24 → ⊥
-    not_24 (Accepted i) f z = omega (arith, z)
-    not_24 (Refused r) f z = f z
+    not_24 (Ok i) f z = omega (arith, z)
+    not_24 (Err r) f z = f z
 
 passes_alike : (wave : ℕ) (words : List ℕ) (a : ℕ) → Passes older wave words a → Passes current wave words a
 passes_alike wave words a p = ap (λ (r : Refusal). r.number) (word_alike wave words a (λ z. omega (arith, z, p))) ∙ p
@@ -129,8 +128,8 @@ module _ (e : Fixed) (s : State) where
       by : (t : Bool) (q : Reading) → reading_of older w ≡ q → ((pick t (with_reading (under older e) s q) (stop 30 s)).end.number ≡ 24 → ⊥)
           → pick t (with_reading (under current e) s (reading_of current w)) (stop 30 s) ≡ pick t (with_reading (under older e) s q) (stop 30 s)
       by false q p f = refl
-      by true (Refused r) p f = ap (with_reading (under current e) s) (reads_alike w (λ z. f (sym (ap number_of p) ∙ z)) ∙ p)
-      by true (Accepted i) p f = ap (with_reading (under current e) s) (reads_alike w (λ z. omega (arith, z, ap number_of p)) ∙ p) ∙ execute_alike i
+      by true (Err r) p f = ap (with_reading (under current e) s) (reads_alike w (λ z. f (sym (ap number_of p) ∙ z)) ∙ p)
+      by true (Ok i) p f = ap (with_reading (under current e) s) (reads_alike w (λ z. omega (arith, z, ap number_of p)) ∙ p) ∙ execute_alike i
 
 -- ---- the run
 

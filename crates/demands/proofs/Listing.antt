@@ -19,9 +19,8 @@ use Rattle.instruction.specs.declared.Instruction.{Instruction}
 use Rattle.instruction.specs.declared.Rules.{Rules}
 use Rattle.instruction.specs.declared.Body.{Body}
 use Rattle.instruction.specs.declared.Body.TheVariants.{Waveform, Marker, Wait, LoadRepeat, Repeat, Cmp, Goto, Call, Return, Sync, Modulator, LoadCmp, Prefetch, Noop}
-use Rattle.reader.specs.Reading.{reading_of}
-use Rattle.reader.specs.declared.Reading.{Reading}
-use Rattle.reader.specs.declared.Reading.TheVariants.{Accepted}
+use Rattle.reader.specs.Reading.{Reading, reading_of}
+use Rattle.std.specs.declared.result.Result.TheVariants.{Ok}
 use Rattle.writer.specs.Writing.{asked_of, written_of, not_written}
 use Rattle.writer.specs.declared.Written.{Written}
 use Rattle.writer.proofs.Laws.{asked_wide}
@@ -290,7 +289,7 @@ module _ (rules : Rules) (room a : ℕ) (p : List ℕ) where
       let fs = cut tab p in
       let g = good_fields rules a fs (good_read rules room a read e) in
       let i = wish_in fs in
-      let back : reading_of rules (written_of rules i).word ≡ Accepted i = write_read rules i g.written in
+      let back : reading_of rules (written_of rules i).word ≡ Ok i = write_read rules i g.written in
       ap (λ (t : List ℕ). t ++ (line_feed ∷ [])) (sym (joined_cut tab p) ∙ ap (joined tab) (good_texts rules a fs g))
       ∙ sym (line_joined (number a) (entries_of i))
       ∙ ap (λ (x : Reading). line_text (number a) (entries_in x)) (sym back)

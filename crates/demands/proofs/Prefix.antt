@@ -14,9 +14,8 @@ use Rattle.instruction.specs.declared.Rules.{Rules}
 use Rattle.instruction.specs.declared.QuadSamples.{QuadSamples}
 use Rattle.instruction.specs.declared.Body.{Body}
 use Rattle.instruction.specs.declared.Body.TheVariants.{Waveform, Marker, Wait, LoadRepeat, Repeat, Cmp, Goto, Call, Return, Sync, Modulator, LoadCmp, Prefetch, Noop}
-use Rattle.reader.specs.Reading.{reading_of}
-use Rattle.reader.specs.declared.Reading.{Reading}
-use Rattle.reader.specs.declared.Reading.TheVariants.{Accepted, Refused}
+use Rattle.reader.specs.Reading.{Reading, reading_of}
+use Rattle.std.specs.declared.result.Result.TheVariants.{Ok, Err}
 use Rattle.sequence.specs.Placing.{placing_of}
 use Rattle.sequence.specs.Bounds.{lengths_refused}
 use Rattle.jumps.specs.State.{Fixed, Did, fresh, stop}
@@ -132,8 +131,8 @@ module _ (e e' : Fixed) (x : Extends e e') (s : State) where
       by : (b : Bool) → ltb s.core.address.0 (length e.words) ≡ b
           → (q : Reading) → reading_of e.setting.rules (get_or e.words s.core.address.0 0) ≡ q → step_of e' s ≡ step_of e s
       by false t q r = absurd (not_moved 30 (λ y. omega (arith, y)) (step_past e s (ltb-false s.core.address.0 (length e.words) t)) z)
-      by true t (Refused f) r = step_refused e' s f (subst (λ (l : List ℕ). s.core.address.0 < length l) (sym x.words) (ltb-true _ _ t)) (ap₂ (λ (k : Rules) (l : List ℕ). reading_of k (get_or l s.core.address.0 0)) x.rules x.words ∙ r) ∙ sym (step_refused e s f (ltb-true _ _ t) r)
-      by true t (Accepted i) r =
+      by true t (Err f) r = step_refused e' s f (subst (λ (l : List ℕ). s.core.address.0 < length l) (sym x.words) (ltb-true _ _ t)) (ap₂ (λ (k : Rules) (l : List ℕ). reading_of k (get_or l s.core.address.0 0)) x.rules x.words ∙ r) ∙ sym (step_refused e s f (ltb-true _ _ t) r)
+      by true t (Ok i) r =
           let p = step_accepted e s i (ltb-true _ _ t) r in
           step_accepted e' s i (subst (λ (l : List ℕ). s.core.address.0 < length l) (sym x.words) (ltb-true _ _ t)) (ap₂ (λ (k : Rules) (l : List ℕ). reading_of k (get_or l s.core.address.0 0)) x.rules x.words ∙ r)
           ∙ execute_same i (ap (λ (y : Did). y.end.number) (sym p) ∙ z) ∙ sym p

@@ -16,9 +16,8 @@ use Rattle.instruction.specs.declared.Rules.{Rules}
 use Rattle.instruction.specs.declared.Instruction.{Instruction}
 use Rattle.instruction.specs.declared.Body.{Body}
 use Rattle.instruction.specs.declared.Body.TheVariants.{Waveform, Marker, Wait, LoadRepeat, Repeat, Cmp, Goto, Call, Return, Sync, Modulator, LoadCmp, Prefetch, Noop}
-use Rattle.reader.specs.Reading.{form_in, refused_with, judged, reading_of, refusal_of, number_of}
-use Rattle.reader.specs.declared.Reading.{Reading}
-use Rattle.reader.specs.declared.Reading.TheVariants.{Accepted, Refused}
+use Rattle.reader.specs.Reading.{Reading, form_in, refused_with, judged, reading_of, refusal_of, number_of}
+use Rattle.std.specs.declared.result.Result.TheVariants.{Ok, Err}
 use Rattle.reader.proofs.Laws.{reads_instruction}
 use Rattle.sequence.specs.Placing.{on_engine, is_engine, out_of_wave, out_of_words, placing_of}
 use Rattle.dispatch.proofs.Counts.{picks}
@@ -34,22 +33,22 @@ use Rattle.demands.proofs.Bit.{Quiet, says_none, which_bit}
 
 -- ---- a refused word has a number
 
-refused_number : (q : Refusal) (i : Instruction) (r : Refusal) (b : Bool) → eqb q.number 0 ≡ b → pick b (Accepted i) (Refused q) ≡ Refused r → r.number ≡ 0 → ⊥
+refused_number : (q : Refusal) (i : Instruction) (r : Refusal) (b : Bool) → eqb q.number 0 ≡ b → pick b (Ok i) (Err q) ≡ Err r → r.number ≡ 0 → ⊥
 refused_number q i r true e p z = let x : ◌≡◌ {A = ℕ} 0 1 = cc in omega arith
 refused_number q i r false e p z = eqb-false q.number 0 e (same p ∙ z)
   where
-    same : Refused q ≡ Refused r → q.number ≡ r.number
+    same : ◌≡◌ {A = Reading} (Err q) (Err r) → q.number ≡ r.number
     same p = ap number p
       where
         number : Reading → ℕ
-        number (Accepted j) = q.number
-        number (Refused t) = t.number
+        number (Ok j) = q.number
+        number (Err t) = t.number
 
-reading_number : (rules : Rules) (w : ℕ) (r : Refusal) → reading_of rules w ≡ Refused r → r.number ≡ 0 → ⊥
+reading_number : (rules : Rules) (w : ℕ) (r : Refusal) → reading_of rules w ≡ Err r → r.number ≡ 0 → ⊥
 unfolding reading_of
 reading_number rules w r q z = by (eqb w noop_word) q
   where
-    by : (b : Bool) → pick b (Accepted noop) (judged (refused_with w (form_in rules w)) (spelled_by w)) ≡ Refused r → ⊥
+    by : (b : Bool) → pick b (Ok noop) (judged (refused_with w (form_in rules w)) (spelled_by w)) ≡ Err r → ⊥
     by true p = let x : ◌≡◌ {A = ℕ} 0 1 = cc in omega arith
     by false p = refused_number (refused_with w (form_in rules w)) (spelled_by w) r (eqb (form_in rules w) 0) refl p z
 
@@ -57,14 +56,14 @@ reading_number rules w r q z = by (eqb w noop_word) q
 
 -- a reading is of a word that goes out
 abbrev dispatches : Reading → Bool
-dispatches (Accepted i) = is_dispatched i.body
-dispatches (Refused r) = false
+dispatches (Ok i) = is_dispatched i.body
+dispatches (Err r) = false
 
 -- it is no NOOP, so it reads as what its fields spell
-reads_of : (rules : Rules) (w : ℕ) (i : Instruction) → reading_of rules w ≡ Accepted i → is_dispatched i.body ≡ true → Reads rules w
+reads_of : (rules : Rules) (w : ℕ) (i : Instruction) → reading_of rules w ≡ Ok i → is_dispatched i.body ≡ true → Reads rules w
 reads_of rules w i r q = by (eqb w noop_word) (reads_instruction rules w (ap number_of r))
   where
-    by : (b : Bool) → Accepted (pick b noop (spelled_by w)) ≡ reading_of rules w → Reads rules w
+    by : (b : Bool) → Ok (pick b noop (spelled_by w)) ≡ reading_of rules w → Reads rules w
     by true p = absurd (true≢false (sym (ap dispatches (p ∙ r) ∙ q)))
     by false p = record { form = sym p; kind = ap dispatches (p ∙ r) ∙ q }
 
@@ -97,7 +96,7 @@ pub record Goes (e : Fixed) (s : State) : Type 0 where
 -- a word that can be held, with W quad-samples and n words: a low engine word that passes form and 20
 pub record Low (rules : Rules) (wave n word : ℕ) : Type 0 where
   pub instruction : Instruction
-  pub form : reading_of rules word ≡ Accepted instruction
+  pub form : reading_of rules word ≡ Ok instruction
   pub engine : is_engine instruction.body ≡ true
   pub write : instruction.write ≡ 0
   pub placed : placing_of wave n instruction.body ≡ 0
@@ -186,7 +185,7 @@ module _ (e : Fixed) (s : State) where
   act_outcome w Noop g l t = moves_on (nothing t) _ _ _ refl refl (λ u. u) stays
 
   module _ (inside : s.core.address.0 < length e.words) where
-    execute_outcome : (i : Instruction) → reading_of e.setting.rules (get_or e.words s.core.address.0 0) ≡ Accepted i → Outcome e s (execute_of e s i)
+    execute_outcome : (i : Instruction) → reading_of e.setting.rules (get_or e.words s.core.address.0 0) ≡ Ok i → Outcome e s (execute_of e s i)
     unfolding execute_of
     execute_outcome i r =
         let n : ℕ = placing_of e.setting.wave.0 (length e.words) i.body in
@@ -199,8 +198,8 @@ module _ (e : Fixed) (s : State) where
 
     reading_outcome : (q : Reading) → reading_of e.setting.rules (get_or e.words s.core.address.0 0) ≡ q → Outcome e s (with_reading e s q)
     unfolding with_reading
-    reading_outcome (Accepted i) p = execute_outcome i p
-    reading_outcome (Refused r) p =
+    reading_outcome (Ok i) p = execute_outcome i p
+    reading_outcome (Err r) p =
         let w = get_or e.words s.core.address.0 0 in
         stops r (reading_number e.setting.rules w r p) (subst (λ (q : Reading). SaysBit w (refusal_of q)) p (which_bit e.setting.rules w))
 

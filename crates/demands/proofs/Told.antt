@@ -9,9 +9,8 @@ use lib.Dec.{ltb, eqb}
 use lib.ListN.{length, get_or, drop}
 use Rattle.instruction.specs.Bits.{pick}
 use Rattle.instruction.specs.declared.Rules.{Rules}
-use Rattle.reader.specs.Reading.{reading_of, refusal_of}
-use Rattle.reader.specs.declared.Reading.{Reading}
-use Rattle.reader.specs.declared.Reading.TheVariants.{Accepted, Refused}
+use Rattle.reader.specs.Reading.{Reading, reading_of, refusal_of}
+use Rattle.std.specs.declared.result.Result.TheVariants.{Ok, Err}
 use Rattle.sequence.specs.Bounds.{word_limit, wave_limit, stack_depth, budget_limit, lengths_refused}
 use Rattle.sequence.specs.Placing.{placing_of}
 use Rattle.flow.specs.Walk.{Fault, past, full, empty}
@@ -51,11 +50,11 @@ word_says rules wave words a = by (reading_of rules w) (which_bit rules w)
     w = get_or words a 0
 
     by : (q : Reading) → SaysBit w (refusal_of q) → SaysBit w (refused_as wave (length words) (drop (a + 1) words) q)
-    by (Accepted i) x =
+    by (Ok i) x =
         says_none w (stands_refused wave (length words) (drop (a + 1) words) i)
         (picks Quiet (not (eqb (placing_of wave (length words) i.body) 0)) (λ _. placing_quiet wave (length words) i.body)
         (λ _. picks Quiet (left_open i (drop (a + 1) words)) (λ _. refl) (λ _. refl)))
-    by (Refused r) x = x
+    by (Err r) x = x
 
 fault_quiet : (words : List ℕ) (number a : ℕ) → Fault stack_depth words number a → Quiet number
 fault_quiet words number a (past _) = refl

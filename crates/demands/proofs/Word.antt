@@ -22,8 +22,8 @@ use Rattle.instruction.specs.declared.Body.{Body}
 use Rattle.instruction.specs.declared.Body.TheVariants.{Waveform, Marker, Wait, LoadRepeat, Repeat, Cmp, Goto, Call, Return, Sync, Modulator, LoadCmp, Prefetch, Noop}
 use Rattle.instruction.proofs.Laws.{fits_noop, fits_other, word_noop, word_other}
 use Rattle.named.specs.Named.{fields_of, named_bits}
-use Rattle.reader.specs.Reading.{some_below, not_its_op, form_in, highest_stray, reading_of}
-use Rattle.reader.specs.declared.Reading.TheVariants.{Accepted, Refused}
+use Rattle.reader.specs.Reading.{Reading, some_below, not_its_op, form_in, highest_stray, reading_of}
+use Rattle.std.specs.declared.result.Result.TheVariants.{Ok, Err}
 use Rattle.reader.specs.Masks.{has_unnamed}
 use Rattle.reader.proofs.Below.{none_below}
 use Rattle.reader.proofs.Masks.{no_stray, all_left}
@@ -145,7 +145,7 @@ word_is i n =
     word_other i n
     ∙ onto_sum (laid op_code (code_of i.body)) (engine_select ∷ write_flag ∷ payload_of (code_of i.body)) (i.engine ∷ i.write ∷ values_of i.body)
 
-other_back : (rules : Rules) (i : Instruction) → (code_of i.body ≡ 15 → ⊥) → fits_of i ≡ true → form_of rules i ≡ 0 → reading_of rules (word_of i) ≡ Accepted i
+other_back : (rules : Rules) (i : Instruction) → (code_of i.body ≡ 15 → ⊥) → fits_of i ≡ true → form_of rules i ≡ 0 → reading_of rules (word_of i) ≡ Ok i
 unfolding spelled_by
 other_back rules i n t z =
     let b : Body = i.body in
@@ -166,13 +166,13 @@ other_back rules i n t z =
     }) in
     let named : has_unnamed w ≡ false = sum_named w (ap (λ (k : ℕ). sum_of (fields_of k) (held_in w (fields_of k))) code ∙ ap (sum_of (fields_of c)) hs ∙ sym (word_is i n)) in
     let form : form_in rules w ≡ 0 = form_rest rules w (omega (arith, code, x.code)) named (x.own w code payload) ∙ ap (form_of rules) spelled ∙ z in
-    reads rules w (λ e. omega (arith, code, x.code, e)) form ∙ ap Accepted spelled
+    reads rules w (λ e. omega (arith, code, x.code, e)) form ∙ ap Ok spelled
 
-noop_back : (rules : Rules) (i : Instruction) → code_of i.body ≡ 15 → fits_of i ≡ true → reading_of rules (word_of i) ≡ Accepted i
+noop_back : (rules : Rules) (i : Instruction) → code_of i.body ≡ 15 → fits_of i ≡ true → reading_of rules (word_of i) ≡ Ok i
 noop_back rules i n t =
     let u = both (sym (fits_noop i n) ∙ t) in
     reads_noop rules (word_of i) (word_noop i n)
-    ∙ (λ j. Accepted (record { engine = sym (eqb-true i.engine 0 u.0) j; write = sym (eqb-true i.write 0 u.1) j; body = sym (only_noop i.body n) j }))
+    ∙ (λ j. Ok (record { engine = sym (eqb-true i.engine 0 u.0) j; write = sym (eqb-true i.write 0 u.1) j; body = sym (only_noop i.body n) j }))
   where
     only_noop : (b : Body) → code_of b ≡ 15 → b ≡ Noop
     only_noop (Waveform f) e = absurd (omega arith)
@@ -195,7 +195,7 @@ fits_or : (rules : Rules) (i : Instruction) → asked_of rules i ≡ 0 → (b : 
 fits_or rules i a true t = (t, sym (asked_fitting rules i t) ∙ a)
 fits_or rules i a false t = absurd (omega (arith, a, asked_wide rules i t))
 
-by_name : (rules : Rules) (i : Instruction) → fits_of i ≡ true → form_of rules i ≡ 0 → Dec (code_of i.body ≡ 15) → reading_of rules (word_of i) ≡ Accepted i
+by_name : (rules : Rules) (i : Instruction) → fits_of i ≡ true → form_of rules i ≡ 0 → Dec (code_of i.body ≡ 15) → reading_of rules (word_of i) ≡ Ok i
 by_name rules i t z (yes n) = noop_back rules i n t
 by_name rules i t z (no n) = other_back rules i n t z
 
@@ -305,20 +305,20 @@ noop_again : (rules : Rules) (w : ℕ) → w ≡ noop_word → written_of rules 
 unfolding written_of asked_of fits_of form_of word_of
 noop_again rules w e = rw e
 
-same : {i k : Instruction} → Accepted i ≡ Accepted k → i ≡ k
+same : {i k : Instruction} → ◌≡◌ {A = Reading} (Ok i) (Ok k) → i ≡ k
 same e = cc
 
-refused : {i : Instruction} {r : Refusal} → Refused r ≡ Accepted i → ⊥
+refused : {i : Instruction} {r : Refusal} → ◌≡◌ {A = Reading} (Err r) (Ok i) → ⊥
 refused e = let z : ◌≡◌ {A = ℕ} 0 1 = cc in omega arith
 
-by_form : (rules : Rules) (w : ℕ) → w < 2 ^ 64 → (i : Instruction) → (w ≡ noop_word → ⊥) → reading_of rules w ≡ Accepted i → Dec (form_in rules w ≡ 0)
+by_form : (rules : Rules) (w : ℕ) → w < 2 ^ 64 → (i : Instruction) → (w ≡ noop_word → ⊥) → reading_of rules w ≡ Ok i → Dec (form_in rules w ≡ 0)
     → written_of rules i ≡ record { number = 0; word = zeroed w }
 by_form rules w h i n r (yes z) =
     let x = passed rules w z in
     ap (written_of rules) (same (sym r ∙ reads rules w n z)) ∙ accepted rules w h x (again w (code_in w) x.low refl x.own)
 by_form rules w h i n r (no z) = absurd (refused (sym (refuses rules w n z) ∙ r))
 
-by_noop : (rules : Rules) (w : ℕ) → w < 2 ^ 64 → (i : Instruction) → reading_of rules w ≡ Accepted i → Dec (w ≡ noop_word)
+by_noop : (rules : Rules) (w : ℕ) → w < 2 ^ 64 → (i : Instruction) → reading_of rules w ≡ Ok i → Dec (w ≡ noop_word)
     → written_of rules i ≡ record { number = 0; word = zeroed w }
 by_noop rules w h i r (yes e) = ap (written_of rules) (same (sym r ∙ reads_noop rules w e)) ∙ noop_again rules w e
 by_noop rules w h i r (no n) = by_form rules w h i n r (ℕ_discrete (form_in rules w) 0)

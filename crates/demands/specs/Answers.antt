@@ -1,19 +1,25 @@
 -- "that contract leaves one possible answer and one content of marks and trace" (document 01, "What the contracts settle"), for each public function.
 -- Each statement is about the contract as the function's source has it; C's own are in aps2_c.
-use Rattle.std.specs.Prelude.{◌≡◌, Bool, List, ℕ, ◌≤◌}
+use Rattle.std.specs.Prelude.{◌≡◌, Bool, List, ℕ, ◌≤◌, Result}
+use Rattle.instruction.specs.Form.{number_of, told}
+use Rattle.instruction.specs.declared.BadForm.{BadForm}
 use Rattle.instruction.specs.declared.Instruction.{Instruction}
 use Rattle.instruction.specs.declared.Rules.{Rules}
-use Rattle.reader.specs.Reading.{reading_of}
-use Rattle.reader.specs.declared.Reading.{Reading}
+use Rattle.reader.specs.Reading.{Reading, reading_of}
 use Rattle.writer.specs.Writing.{written_of}
 use Rattle.writer.specs.declared.Written.{Written}
 use Rattle.dispatch.specs.Trace.{Dispatched}
 use Rattle.jumps.specs.State.{Fixed, state_of}
-use Rattle.jumps.specs.Lent.{Done, Traced}
+use Rattle.jumps.specs.Lent.{Done, DoneIn, Traced, state_in}
 use Rattle.jumps.specs.Jumps.{call_of, return_of, message_of}
+use Rattle.jumps.specs.declared.Arrays.{Arrays}
 use Rattle.jumps.specs.declared.Core.{Core}
 use Rattle.jumps.specs.declared.State.{State}
 use Rattle.jumps.specs.declared.Stepped.{Stepped}
+use Rattle.sequence.specs.Numbers.{input_number, place_number, fault_number}
+use Rattle.sequence.specs.declared.BadInput.{BadInput}
+use Rattle.sequence.specs.declared.Misplaced.{Misplaced}
+use Rattle.sequence.specs.declared.Fault.{Fault}
 use Rattle.machine.specs.Step.{step_of}
 use Rattle.rehearsal.specs.Run.{rehearse, Rehearsed}
 use Rattle.rehearsal.specs.declared.Answer.{Answer}
@@ -34,6 +40,22 @@ One A Meets = (r r' : A) → Meets r → Meets r' → r ≡ r'
 -- a contract that is an equation, as those of `read`, `write` and of each function that only computes a number
 abbrev pub OneEqual : Type 1
 OneEqual = (A : Type 0) (definition : A) → One A (λ r. r ≡ definition)
+
+-- a contract that tells the number of what is refused, as those of the functions that judge a form, an input, a place or a flow
+abbrev pub OneTold : (E : Type 0) → (E → ℕ) → Type 0
+OneTold E number = (definition : ℕ) → One (Result (Unit {0}) E) (λ r. told number r ≡ definition)
+
+abbrev pub OneForm : Type 0
+OneForm = OneTold BadForm number_of
+
+abbrev pub OneInput : Type 0
+OneInput = OneTold BadInput input_number
+
+abbrev pub OnePlace : Type 0
+OnePlace = OneTold Misplaced place_number
+
+abbrev pub OneFault : Type 0
+OneFault = OneTold Fault fault_number
 
 abbrev pub OneRead : Type 0
 OneRead = (rules : Rules) (word : ℕ) → One Reading (λ r. r ≡ reading_of rules word)
@@ -73,6 +95,13 @@ abbrev pub OneReturn : Type 0
 OneReturn =
     (s : Core) (returns counters : List ℕ)
     → One (Stepped × List ℕ × List ℕ) (λ r. (ws ts : List ℕ) → Done (return_of (state_of s returns counters ws ts)) r.0 r.1 r.2 ws ts)
+
+-- and with all arrays of the state lent to them
+abbrev pub OneCallLent : Type 0
+OneCallLent = (s : Core) (arrays : Arrays) (to : ℕ) → One (Stepped × Arrays) (λ r. DoneIn (call_of (state_in s arrays) to) r.0 r.1)
+
+abbrev pub OneReturnLent : Type 0
+OneReturnLent = (s : Core) (arrays : Arrays) → One (Stepped × Arrays) (λ r. DoneIn (return_of (state_in s arrays)) r.0 r.1)
 
 abbrev pub OneMessage : Type 0
 OneMessage = (messages : List ℕ) (s : Core) → One Stepped (λ r. (rs cs ws ts : List ℕ) → Done (message_of messages (state_of s rs cs ws ts)) r rs cs ws ts)

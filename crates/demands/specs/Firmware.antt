@@ -6,7 +6,7 @@ use Rattle.instruction.specs.Word.{spelled_by, word_of}
 use Rattle.instruction.specs.declared.Instruction.{Instruction}
 use Rattle.instruction.specs.declared.Rules.{Rules}
 use Rattle.reader.specs.Reading.{reading_of, number_of}
-use Rattle.reader.specs.declared.Reading.TheVariants.{Accepted}
+use Rattle.std.specs.declared.result.Result.TheVariants.{Ok}
 use Rattle.writer.specs.Writing.{written_of}
 use Rattle.jumps.specs.State.{Fixed, fixed_by}
 use Rattle.rehearsal.specs.Run.{rehearse}
@@ -23,7 +23,7 @@ OlderWritesAlike = (i : Instruction) → ((written_of older i).number ≡ 24 →
 
 -- "24 .. after 19", and in the writer after 23: nothing else is wrong where it is given, and the current kind takes it
 abbrev pub OlderReadsAlone : Type 0
-OlderReadsAlone = (word : ℕ) → number_of (reading_of older word) ≡ 24 → reading_of current word ≡ Accepted (spelled_by word)
+OlderReadsAlone = (word : ℕ) → number_of (reading_of older word) ≡ 24 → reading_of current word ≡ Ok (spelled_by word)
 
 abbrev pub OlderWritesAlone : Type 0
 OlderWritesAlone = (i : Instruction) → (written_of older i).number ≡ 24 → written_of current i ≡ record { number = 0; word = word_of i }

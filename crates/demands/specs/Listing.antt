@@ -5,7 +5,7 @@ use Rattle.instruction.specs.Word.{word_bytes}
 use Rattle.instruction.specs.declared.Instruction.{Instruction}
 use Rattle.instruction.specs.declared.Rules.{Rules}
 use Rattle.reader.specs.Reading.{reading_of}
-use Rattle.reader.specs.declared.Reading.TheVariants.{Accepted}
+use Rattle.std.specs.declared.result.Result.TheVariants.{Ok}
 use Rattle.listing.specs.Listing.{words_from, listed_words, listed, listing_of}
 use Rattle.listing_reader.specs.ReadBack.{ReadsBack}
 use Rattle.listing_reader.specs.declared.ReadBack.{ReadBack}
@@ -21,7 +21,7 @@ ListingIsListed =
 pub record Passes (rules : Rules) (word : ℕ) : Type 0 where
   pub small : word < 2 ^ 64
   pub instruction : Instruction
-  pub reads : reading_of rules word ≡ Accepted instruction
+  pub reads : reading_of rules word ≡ Ok instruction
 
 abbrev pub AllPass : Rules → List ℕ → Type 0
 AllPass rules [] = Unit {0}

@@ -9,7 +9,7 @@ use Rattle.instruction.specs.declared.Rules.{Rules}
 use Rattle.instruction.specs.declared.Body.{Body}
 use Rattle.instruction.specs.declared.Body.TheVariants.{Wait, Sync}
 use Rattle.reader.specs.Reading.{reading_of}
-use Rattle.reader.specs.declared.Reading.TheVariants.{Accepted}
+use Rattle.std.specs.declared.result.Result.TheVariants.{Ok}
 use Rattle.sequence.specs.Bounds.{stack_depth, budget_limit}
 use Rattle.sequence.specs.Placing.{is_engine}
 use Rattle.dispatch.specs.Engines.{engine_count, engine_of, waits_for, plays_for}
@@ -48,7 +48,7 @@ is_dispatched b = is_engine b || eqb (code_of b) (code_of Wait) || eqb (code_of 
 
 -- a word has passed form, and what its fields spell, which the engines count, is one of those
 pub record Reads (rules : Rules) (word : ℕ) : Type 0 where
-  pub form : reading_of rules word ≡ Accepted (spelled_by word)
+  pub form : reading_of rules word ≡ Ok (spelled_by word)
   pub kind : is_dispatched (spelled_by word).body ≡ true
 
 -- what holds of each word of a list

@@ -7,7 +7,7 @@ use Rattle.instruction.specs.Word.{code_in}
 use Rattle.instruction.specs.declared.Instruction.{Instruction}
 use Rattle.instruction.specs.declared.Rules.{Rules}
 use Rattle.reader.specs.Reading.{reading_of}
-use Rattle.reader.specs.declared.Reading.TheVariants.{Accepted}
+use Rattle.std.specs.declared.result.Result.TheVariants.{Ok}
 use Rattle.writer.specs.Writing.{written_of}
 
 -- the word, with the payload of RETURN and LOAD_CMP zeroed
@@ -18,11 +18,11 @@ zeroed word = pick (is_ignored (code_in word)) (word / span whole_payload * span
 abbrev pub ReadWrite : Type 0
 ReadWrite =
     (rules : Rules) (word : ℕ) → word < 2 ^ 64
-    → (i : Instruction) → reading_of rules word ≡ Accepted i
+    → (i : Instruction) → reading_of rules word ≡ Ok i
     → written_of rules i ≡ record { number = 0; word = zeroed word }
 
 -- what is written with number 0 reads back as the instruction asked for
 abbrev pub WriteRead : Type 0
 WriteRead =
     (rules : Rules) (i : Instruction) → (written_of rules i).number ≡ 0
-    → reading_of rules (written_of rules i).word ≡ Accepted i
+    → reading_of rules (written_of rules i).word ≡ Ok i

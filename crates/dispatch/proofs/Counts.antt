@@ -1,14 +1,14 @@
 -- Laws of what the engines count: a word adds at most one wait and 2^32 quad-samples, to one of six engines.
 -- Assumes nothing.
 use Prim.Native.Nat.{ℕ, zero, suc, ◌+◌, ◌*◌, ◌^◌, ◌≤◌, ◌<◌}
-use mathlib.Core.Path.{◌≡◌, refl, sym, ap₂, ◌∙◌, subst}
+use mathlib.Core.Path.{◌≡◌, refl, sym, ap, ◌∙◌, subst}
 use mathlib.Core.Bool.{Bool, true, false}
 use mathlib.Core.List.{List, [], ◌∷◌, ◌++◌}
 use native.Mathlib.Numerals.{add-one}
 use native.Mathlib.Omega.{arith}
 use lib.Dec.{eqb}
-use lib.ListN.{length, get_or, take, drop, length-set, length-map, length-drop}
-use lib.Seq.{take-suc, drop-cons, get_or-drop}
+use lib.ListN.{length, get_or, take, length-set, length-map}
+use lib.Seq.{take-suc, take_all}
 use Rattle.instruction.specs.Bits.{pick, span}
 use Rattle.instruction.specs.Table.{engine_select, code_of, body_of}
 use Rattle.instruction.specs.Form.{plays, modulates}
@@ -19,7 +19,7 @@ use Rattle.instruction.specs.declared.Body.TheVariants.{Wait}
 use Rattle.sequence.proofs.Laws.{on_engine_lem}
 use Rattle.dispatch.specs.Engines.{engine_of, waits_for, plays_for, waits_after, totals_after, waits_over, totals_over, Six, Counted}
 use Rattle.dispatch.specs.Counting.{count_in, share_in, Small, CountedOne}
-use Rattle.dispatch.specs.Trace.{part}
+use Rattle.dispatch.specs.Trace.{CountedAll}
 use Rattle.dispatch.specs.declared.Share.{Share}
 use Rattle.dispatch.proofs.Lists.{all_get, all_set, all_more, all_plus}
 
@@ -141,31 +141,36 @@ counted_over k ws ts (w ∷ out) c =
 
 -- ---- the loop over a group
 
--- i words from an address on are counted
-pub record Along (words : List ℕ) (from n i : ℕ) (ws ts ws' ts' : List ℕ) : Type 0 where
-  pub waits : ws' ≡ waits_over ws (part from i words)
-  pub totals : ts' ≡ totals_over ts (part from i words)
-  pub within : i ≤ n
+-- the first i words are counted
+pub record Along (group : List ℕ) (i : ℕ) (ws ts ws' ts' : List ℕ) : Type 0 where
+  pub waits : ws' ≡ waits_over ws (take i group)
+  pub totals : ts' ≡ totals_over ts (take i group)
   pub counts : Counted (2 ^ 30 + i) ws' ts'
 
-pub along_start : (words : List ℕ) (from n : ℕ) (ws ts : List ℕ) → Counted (2 ^ 30) ws ts → Along words from n 0 ws ts ws ts
-along_start words from n ws ts c = record { waits = refl; totals = refl; within = omega arith; counts = counted_more (2 ^ 30) (2 ^ 30 + 0) ws ts (omega arith) c }
+pub along_start : (group ws ts : List ℕ) → Counted (2 ^ 30) ws ts → Along group 0 ws ts ws ts
+along_start group ws ts c = record { waits = refl; totals = refl; counts = counted_more (2 ^ 30) (2 ^ 30 + 0) ws ts (omega arith) c }
 
-pub along_next : (words : List ℕ) (from n i : ℕ) (ws ts ws' ts' wn tn : List ℕ) → from + n ≤ length words → i < n
-    → Along words from n i ws ts ws' ts' → CountedOne (share_in (spelled_by (get_or words (from + i) 0))) ws' ts' wn tn
-    → Along words from n (i + 1) ws ts wn tn
-along_next words from n i ws ts ws' ts' wn tn h l a d =
-    let w : ℕ = get_or words (from + i) 0 in
-    let e : w ≡ get_or (drop from words) i 0 = sym (get_or-drop from words i 0) in
-    let m : i < length (drop from words) = rw length-drop (omega arith) in
-    let p : wn ≡ waits_over ws (part from (i + 1) words) =
-    d.waits ∙ ap₂ (λ (x : List ℕ) (y : ℕ). waits_after x (spelled_by y)) a.waits e ∙ waits_next ws (drop from words) i m in
-    let q : tn ≡ totals_over ts (part from (i + 1) words) =
-    d.totals ∙ ap₂ (λ (x : List ℕ) (y : ℕ). totals_after x (spelled_by y)) a.totals e ∙ totals_next ts (drop from words) i m in
+pub along_next : (group : List ℕ) (i : ℕ) (ws ts ws' ts' wn tn : List ℕ) → i < length group
+    → Along group i ws ts ws' ts' → CountedOne (share_in (spelled_by (get_or group i 0))) ws' ts' wn tn
+    → Along group (i + 1) ws ts wn tn
+along_next group i ws ts ws' ts' wn tn l a d =
+    let w : ℕ = get_or group i 0 in
+    let p : wn ≡ waits_over ws (take (i + 1) group) =
+    d.waits ∙ ap (λ (x : List ℕ). waits_after x (spelled_by w)) a.waits ∙ waits_next ws group i l in
+    let q : tn ≡ totals_over ts (take (i + 1) group) =
+    d.totals ∙ ap (λ (x : List ℕ). totals_after x (spelled_by w)) a.totals ∙ totals_next ts group i l in
     let c : Counted (2 ^ 30 + i + 1) wn tn = rw (d.waits, d.totals) (counted_after (2 ^ 30 + i) w ws' ts' a.counts) in
-    record { waits = p; totals = q; within = omega arith; counts = counted_more (2 ^ 30 + i + 1) (2 ^ 30 + (i + 1)) wn tn (omega arith) c }
+    record { waits = p; totals = q; counts = counted_more (2 ^ 30 + i + 1) (2 ^ 30 + (i + 1)) wn tn (omega arith) c }
 
--- ---- a word that goes out alone
+-- all of them
+pub along_end : (group ws ts ws' ts' : List ℕ) → Along group (length group) ws ts ws' ts' → CountedAll group ws ts ws' ts'
+along_end group ws ts ws' ts' a =
+    let e : take (length group) group ≡ group = take_all (length group) group (omega arith) in
+    record { waits = a.waits ∙ ap (waits_over ws) e; totals = a.totals ∙ ap (totals_over ts) e }
 
-pub part_one : (words : List ℕ) (from : ℕ) → from < length words → part from 1 words ≡ get_or words from 0 ∷ []
-part_one words from h = rw (drop-cons words from 0 h)
+-- ---- a group of one word
+
+pub one_word : (group : List ℕ) → length group ≡ 1 → group ≡ get_or group 0 0 ∷ []
+one_word [] h = absurd (omega arith)
+one_word (w ∷ []) h = refl
+one_word (w ∷ v ∷ group) h = absurd (omega arith)

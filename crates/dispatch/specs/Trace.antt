@@ -20,13 +20,12 @@ pub record CountedAll (out : List ℕ) (ws ts ws' ts' : List ℕ) : Type 0 where
   pub waits : ws' ≡ waits_over ws out
   pub totals : ts' ≡ totals_over ts out
 
--- ---- what the dispatcher asks: a group of the sequence, room for it, and counts that cannot overflow
+-- ---- what the dispatcher asks: no more words than a group has, room for them, and counts that cannot overflow
 
-pub record CanCount (words : List ℕ) (from n : ℕ) (ws ts : List ℕ) : Type 0 where
-  pub inside : from + n ≤ length words
-  pub group : n ≤ group_size
+pub record CanCount (group : List ℕ) (ws ts : List ℕ) : Type 0 where
+  pub size : length group ≤ group_size
   pub counts : Counted (2 ^ 30) ws ts
 
-pub record CanDispatch (words : List ℕ) (from n room len : ℕ) (ws ts : List ℕ) : Type 0 where
-  pub count : CanCount words from n ws ts
-  pub fits : len + n ≤ room
+pub record CanDispatch (group : List ℕ) (room len : ℕ) (ws ts : List ℕ) : Type 0 where
+  pub count : CanCount group ws ts
+  pub fits : len + length group ≤ room

@@ -9,7 +9,7 @@ ghost use Rattle.instruction.specs.Form.{plays, awaits_trigger};
 ghost use Rattle.instruction.specs.Word.{spelled_by};
 ghost use Rattle.dispatch.specs.Engines.{plus_one, Six, Counted};
 ghost use Rattle.dispatch.specs.Counting.{count_in, share_of, share_in, Small, CountedOne};
-ghost use Rattle.dispatch.specs.Trace.{part, Dispatched, CountedAll, CanCount, CanDispatch};
+ghost use Rattle.dispatch.specs.Trace.{Dispatched, CountedAll, CanCount, CanDispatch};
 
 use instruction::{
     Body, EngineOp, Instruction, MarkerFields, ModulatorFields, QuadSamples, Samples,
@@ -138,10 +138,8 @@ fn plus_one(waits: &mut [u64; Engines::COUNT])
     requires { Six (2 ^ 32) waits.old }
     ensures { waits.new ≡ plus_one waits.old }
 {
-    let mut i = 0;
-    while i < Engines::COUNT {
-        waits[i] = waits[i] + 1;
-        i += 1;
+    for waited in waits.iter_mut() {
+        *waited += 1;
     }
 }
 
@@ -151,68 +149,60 @@ fn count(share: Share, waits: &mut [u64; Engines::COUNT], totals: &mut [u64; Eng
     ensures { CountedOne share waits.old totals.old waits.new totals.new }
 {
     let engine = share.engine as usize;
-    totals[engine] = totals[engine] + share.plays.0;
+    totals[engine] += share.plays.0;
     if share.all {
         plus_one(waits);
         return;
     }
-    waits[engine] = waits[engine] + share.waits;
+    waits[engine] += share.waits;
 }
 
 // The words of a group, each counted in its turn.
 fn write_all(
-    words: &[u64],
-    from: usize,
-    n: usize,
+    group: &[u64],
     room: &mut [u64],
     waits: &mut [u64; Engines::COUNT],
     totals: &mut [u64; Engines::COUNT],
 )
-    requires { CanCount words.now from n waits.old totals.old × (n ≤ length room.old) }
-    ensures { (room.new ≡ part from n words.now ++ drop n room.old) × CountedAll (part from n words.now) waits.old totals.old waits.new totals.new }
+    requires { CanCount group.now waits.old totals.old × (length group.now ≤ length room.old) }
+    ensures { (room.new ≡ group.now ++ drop (length group.now) room.old) × CountedAll group.now waits.old totals.old waits.new totals.new }
 {
-    let mut i = 0;
-    while i < n {
-        let word = words[from + i];
-        room[i] = word;
-        count(Share::in_word(word), waits, totals);
-        i += 1;
+    room[..group.len()].copy_from_slice(group);
+    for word in group {
+        count(Share::in_word(*word), waits, totals);
     }
 }
 
 // The group writer: the words of a group go out from the start of the part that is lent. Most words go out alone.
 fn write_group(
-    words: &[u64],
-    from: usize,
-    n: usize,
+    group: &[u64],
     room: &mut [u64],
     waits: &mut [u64; Engines::COUNT],
     totals: &mut [u64; Engines::COUNT],
 )
-    requires { CanCount words.now from n waits.old totals.old × (n ≤ length room.old) }
-    ensures { (room.new ≡ part from n words.now ++ drop n room.old) × CountedAll (part from n words.now) waits.old totals.old waits.new totals.new }
+    requires { CanCount group.now waits.old totals.old × (length group.now ≤ length room.old) }
+    ensures { (room.new ≡ group.now ++ drop (length group.now) room.old) × CountedAll group.now waits.old totals.old waits.new totals.new }
 {
-    if n == 1 {
-        let word = words[from];
+    if group.len() == 1 {
+        let word = group[0];
         room[0] = word;
         count(Share::in_word(word), waits, totals);
         return;
     }
-    write_all(words, from, n, room, waits, totals);
+    write_all(group, room, waits, totals);
 }
 
 // The dispatcher: the group goes out whole, after the last dispatched word.
+// Both counts are lent apart, as `OneDispatch` speaks of them.
 pub fn dispatch(
-    words: &[u64],
-    from: usize,
-    n: usize,
+    group: &[u64],
     trace: &mut [u64],
     len: usize,
     waits: &mut [u64; Engines::COUNT],
     totals: &mut [u64; Engines::COUNT],
 )
-    requires { CanDispatch words.now from n (length trace.old) len waits.old totals.old }
-    ensures { Dispatched (part from n words.now) len trace.old waits.old totals.old trace.new waits.new totals.new }
+    requires { CanDispatch group.now (length trace.old) len waits.old totals.old }
+    ensures { Dispatched group.now len trace.old waits.old totals.old trace.new waits.new totals.new }
 {
-    write_group(words, from, n, &mut trace[len..], waits, totals);
+    write_group(group, &mut trace[len..], waits, totals);
 }

@@ -15,6 +15,7 @@ use Rattle.text.specs.Cut.{tab, cut, has, before, place_of, fields_after, Row, r
 use Rattle.text.specs.Line.{letters}
 use Rattle.text.specs.Number.{value, is_number, field_at, counted_at}
 use Rattle.text.specs.declared.Counted.{Counted}
+use Rattle.std.specs.Prelude.{Some, None}
 use Rattle.text.proofs.Alike.{same_text_lem}
 use Rattle.text.proofs.Back.{number_said, number_not}
 use Rattle.text.proofs.Below.{all_below_lem}
@@ -120,21 +121,21 @@ module _ (line : List ℕ) (end : ℕ) where
   pub target_none : length line ≤ end → Finds (has_target (fields_after end line)) (get_or (fields_after end line) 2 []) line 0
   target_none l = no_target line (fields_after end line) (ap has_target (after_last line end l))
 
-  module _ (l : end < length line) {f : Counted} (n : f ≡ counted_at (end + 1) line) where
+  module _ (l : end < length line) where
     behind_one : fields_after end line ≡ field_at (end + 1) line ∷ fields_after (place_of tab (end + 1) line) line
     behind_one =
         after_next line end l refl
         ∙ ap (λ (p : List ℕ). p ∷ fields_after (place_of tab (end + 1) line) line) (found_piece tab (end + 1) line {r = place_of tab (end + 1) line} refl)
 
-    pub target_engine : f.plain ≡ false → Finds (has_target (fields_after end line)) (get_or (fields_after end line) 2 []) line 0
-    target_engine p =
+    pub target_engine : None ≡ counted_at (end + 1) line → Finds (has_target (fields_after end line)) (get_or (fields_after end line) 2 []) line 0
+    target_engine n =
         no_target line (fields_after end line)
         (ap has_target behind_one
-        ∙ no_engine (eqb (suc (length (fields_after (place_of tab (end + 1) line) line))) 3) (is_number (field_at (end + 1) line)) (all_numbers (take 1 (fields_after (place_of tab (end + 1) line) line))) (is_label (get_or (fields_after (place_of tab (end + 1) line) line) 1 [])) (number_not tab (end + 1) line n p))
+        ∙ no_engine (eqb (suc (length (fields_after (place_of tab (end + 1) line) line))) 3) (is_number (field_at (end + 1) line)) (all_numbers (take 1 (fields_after (place_of tab (end + 1) line) line))) (is_label (get_or (fields_after (place_of tab (end + 1) line) line) 1 [])) (number_not tab (end + 1) line n))
 
-    module _ (p : f.plain ≡ true) where
+    module _ {f : Counted} (n : Some f ≡ counted_at (end + 1) line) where
       said : (is_number (field_at (end + 1) line) ≡ true) × (f.value ≡ value (field_at (end + 1) line)) × (f.end ≡ place_of tab (end + 1) line)
-      said = number_said tab (end + 1) line n p
+      said = number_said tab (end + 1) line n
 
       after_one : fields_after end line ≡ field_at (end + 1) line ∷ fields_after f.end line
       after_one = behind_one ∙ ap (λ (i : ℕ). field_at (end + 1) line ∷ fields_after i line) (sym said.2)
@@ -142,7 +143,7 @@ module _ (line : List ℕ) (end : ℕ) where
       pub target_alone : length line ≤ f.end → Finds (has_target (fields_after end line)) (get_or (fields_after end line) 2 []) line 0
       target_alone m = no_target line (fields_after end line) (ap has_target (after_one ∙ ap (λ (fs : List (List ℕ)). field_at (end + 1) line ∷ fs) (after_last line f.end m)))
 
-      module _ (m : f.end < length line) {g : Counted} (o : g ≡ counted_at (f.end + 1) line) where
+      module _ (m : f.end < length line) where
         behind_two : fields_after end line ≡ field_at (end + 1) line ∷ field_at (f.end + 1) line ∷ fields_after (place_of tab (f.end + 1) line) line
         behind_two =
             after_one
@@ -150,16 +151,16 @@ module _ (line : List ℕ) (end : ℕ) where
             (after_next line f.end m refl
             ∙ ap (λ (p : List ℕ). p ∷ fields_after (place_of tab (f.end + 1) line) line) (found_piece tab (f.end + 1) line {r = place_of tab (f.end + 1) line} refl))
 
-        pub target_write : g.plain ≡ false → Finds (has_target (fields_after end line)) (get_or (fields_after end line) 2 []) line 0
-        target_write q =
+        pub target_write : None ≡ counted_at (f.end + 1) line → Finds (has_target (fields_after end line)) (get_or (fields_after end line) 2 []) line 0
+        target_write o =
             no_target line (fields_after end line)
             (ap has_target behind_two
             ∙ no_write (eqb (suc (suc (length (fields_after (place_of tab (f.end + 1) line) line)))) 3) (is_number (field_at (end + 1) line)) (is_number (field_at (f.end + 1) line)) true
-            (is_label (get_or (fields_after (place_of tab (f.end + 1) line) line) 0 [])) (number_not tab (f.end + 1) line o q))
+            (is_label (get_or (fields_after (place_of tab (f.end + 1) line) line) 0 [])) (number_not tab (f.end + 1) line o))
 
-        module _ (q : g.plain ≡ true) {r : ℕ} (h : Finds (last_label (fields_after g.end line)) (get_or (fields_after g.end line) 0 []) line r) where
+        module _ {g : Counted} (o : Some g ≡ counted_at (f.end + 1) line) {r : ℕ} (h : Finds (last_label (fields_after g.end line)) (get_or (fields_after g.end line) 0 []) line r) where
           saying : (is_number (field_at (f.end + 1) line) ≡ true) × (g.value ≡ value (field_at (f.end + 1) line)) × (g.end ≡ place_of tab (f.end + 1) line)
-          saying = number_said tab (f.end + 1) line o q
+          saying = number_said tab (f.end + 1) line o
 
           after_two : fields_after end line ≡ field_at (end + 1) line ∷ field_at (f.end + 1) line ∷ fields_after g.end line
           after_two = behind_two ∙ ap (λ (i : ℕ). field_at (end + 1) line ∷ field_at (f.end + 1) line ∷ fields_after i line) (sym saying.2)
@@ -208,7 +209,7 @@ jump_count row h j = by (jumps row) j (all_below_lem name_count (λ k. not (jump
     by true e f = eqb-true (field_count row) 3 f
     by false e f = never (sym e)
 
-not_jump : (row : ℕ) → name_count ≤ row → jumps row ≡ false
+pub not_jump : (row : ℕ) → name_count ≤ row → jumps row ≡ false
 not_jump row h = λ j. ne_eqb row 4 (λ q. omega arith) j || ne_eqb row 6 (λ q. omega arith) j || ne_eqb row 7 (λ q. omega arith) j
 
 -- nothing is wrong, or the shape
@@ -379,8 +380,8 @@ pub found_here : (label : Bool) (from : ℕ) → (from ≡ 0 → ⊥) → record
 found_here label from e = rw (ne_eqb from 0 e)
 
 -- a number ends inside its line
-pub number_ends : (line : List ℕ) (from : ℕ) {f : Counted} → from ≤ length line → f ≡ counted_at from line → f.plain ≡ true → f.end ≤ length line
-number_ends line from l n p = found_inside tab from line (number_said tab from line n p).2 l
+pub number_ends : (line : List ℕ) (from : ℕ) {f : Counted} → from ≤ length line → Some f ≡ counted_at from line → f.end ≤ length line
+number_ends line from l n = found_inside tab from line (number_said tab from line n).2 l
 
 -- ---- a line that has its shape
 

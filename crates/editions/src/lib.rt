@@ -4,6 +4,7 @@
 
 ghost use Rattle.std.specs.Prelude.{◌≡◌, true, [], ◌≤◌, ◌<◌, length, get_or};
 ghost use Rattle.text.specs.Cut.{tab, cut, fields_after, row_at};
+ghost use Rattle.names.specs.Names.{row_named};
 ghost use Rattle.editions.specs.Editions.{jumps};
 ghost use Rattle.editions.specs.Moves.{refused_at};
 ghost use Rattle.editions.specs.Told.{final_from, nowhere, TellsOne, room_behind, taken, last_label, has_target, Finds, KindOf, found_two, plain_two, TellsTwo, TellsRow, GlancesOne, GlancesTwo};
@@ -13,7 +14,7 @@ use instruction::Body;
 use label::is_label;
 use listing_reader::ReadBack;
 use listing_reader::line::{field_count, line_shape};
-use names::{Names, named};
+use names::named;
 use text::{find, number_from, same};
 
 // What is told of a text: 0 and how many bytes it moves to, or the number of a refusal and its line.
@@ -63,11 +64,8 @@ impl Room {
     pub fn take(self, more: usize) -> Room
         ensures { result ≡ taken more self }
     {
-        if self.left <= more {
-            return Room { left: 0 };
-        }
         Room {
-            left: self.left - more,
+            left: self.left.saturating_sub(more),
         }
     }
 }
@@ -79,18 +77,26 @@ pub fn is_jump(row: u64) -> bool
     (row == Body::REPEAT) | (row == Body::GOTO) | (row == Body::CALL)
 }
 
+// Whether a name is that of a jump.
+fn names_jump(name: &[u8]) -> bool
+    ensures { result ≡ jumps (row_named name.now) }
+{
+    match named(name) {
+        Some(row) => is_jump(row),
+        None => false,
+    }
+}
+
 // Where the last field of a line starts.
 pub fn last_field(line: &[u8]) -> usize
     ensures { result ≡ final_from line.now }
 {
-    let mut i = line.len();
-    while 0 < i {
-        if line[i - 1] == b'\t' {
-            return i;
+    for i in (0..line.len()).rev() {
+        if line[i] == b'\t' {
+            return i + 1;
         }
-        i -= 1;
     }
-    i
+    0
 }
 
 // A line of edition 1: what is wrong with it, or its target and where its name starts.
@@ -153,8 +159,7 @@ pub fn glance_one(line: &[u8]) -> LineOne
     }
     let from = end + 1;
     let stop = find(line, from, b'\t');
-    let row = named(&line[from..stop]);
-    if is_jump(row) {
+    if names_jump(&line[from..stop]) {
         return LineOne {
             number: 0,
             target: 0,
@@ -206,17 +211,15 @@ fn target_from(line: &[u8], end: usize) -> usize
     if line.len() <= end {
         return 0;
     }
-    let engine = number_from(line, end + 1);
-    if !engine.plain {
+    let Some(engine) = number_from(line, end + 1) else {
         return 0;
-    }
+    };
     if line.len() <= engine.end {
         return 0;
     }
-    let write = number_from(line, engine.end + 1);
-    if !write.plain {
+    let Some(write) = number_from(line, engine.end + 1) else {
         return 0;
-    }
+    };
     label_from(line, write.end)
 }
 
@@ -272,16 +275,15 @@ pub fn line_two(line: &[u8]) -> LineTwo
         let from = label_from(line, end);
         return LineTwo::found(true, from);
     }
-    let row = named(&line[..end]);
-    if Names::COUNT <= row {
+    let Some(row) = named(&line[..end]) else {
         return LineTwo::plain(ReadBack::NO_NAME);
-    }
+    };
     if is_jump(row) {
         let from = target_from(line, end);
         return LineTwo::found(false, from);
     }
     let mut values = [0u64; ReadBack::FIELDS];
-    if !read_numbers(line, end, field_count(row), &mut values) {
+    if !read_numbers(line, end, &mut values[..field_count(row)]) {
         return LineTwo::plain(ReadBack::NO_LINE);
     }
     LineTwo::plain(0)
@@ -301,8 +303,7 @@ pub fn glance_two(line: &[u8]) -> LineTwo
             from: 0,
         };
     }
-    let row = named(&line[..end]);
-    if is_jump(row) {
+    if names_jump(&line[..end]) {
         return LineTwo {
             number: 0,
             label: false,

@@ -6,16 +6,17 @@ use mathlib.Core.Bool.{Bool, true, false, ◌&&◌}
 use mathlib.Core.List.{List, [], ◌∷◌, ◌++◌, map, append_assoc, append-nil}
 use native.Mathlib.Omega.{arith}
 use native.Mathlib.Decide.{dec_lt}
-use borrow.Author.Tests.{eq-eqb, ne_eqb, le-leb, lt-leb, lt-ltb}
+use borrow.Author.Tests.{eqb-true, eq-eqb, ne_eqb, le-leb, lt-leb, lt-ltb}
 use lib.Dec.{eqb, leb}
-use lib.ListN.{length, get_or, set, drop, replicate, length-append, length-map}
-use lib.Seq.{get_or-drop}
+use lib.ListN.{length, get_or, set, take, drop, replicate, length-append, length-map, length-take, drop_of_length-le}
+use lib.Seq.{get_or-drop, length-take-le}
+use Rattle.std.specs.Prelude.{Some, None}
 use Rattle.buffer.specs.Put.{put}
 use Rattle.buffer.proofs.Laws.{put_none, length_put, put_more, put_front}
 use Rattle.text.specs.Cut.{tab, cut, place_of, fields_after}
 use Rattle.text.specs.Number.{value, is_number, field_at, counted_at}
 use Rattle.text.specs.declared.Counted.{Counted}
-use Rattle.text.proofs.Bools.{never, and_false}
+use Rattle.text.proofs.Bools.{both, never, and_false}
 use Rattle.text.proofs.Cuts.{cut_first, found_inside, found_piece}
 use Rattle.text.proofs.Back.{number_said, number_not}
 use Rattle.text.proofs.Rows.{after_last, after_next, field_next}
@@ -67,7 +68,7 @@ module _ (line : List ℕ) (from count : ℕ) (before : List ℕ) (h : from ≤ 
     pub gather_few : k < count → length line ≤ at → NumbersRead count (fields_after from line) before values false
     gather_few m e = refuted (ap (λ (t : Bool). t && all_numbers (fields_after from line)) (ne_eqb (length (fields_after from line)) count (λ q. omega (arith, q, ap length (all_there e), g.size))))
 
-    module _ (e : at < length line) {r : Counted} (n : r ≡ counted_at (at + 1) line) where
+    module _ (e : at < length line) where
       abbrev field : List ℕ
       field = field_at (at + 1) line
 
@@ -81,18 +82,18 @@ module _ (line : List ℕ) (from count : ℕ) (before : List ℕ) (h : from ≤ 
           (after_next line at e refl ∙ ap (λ (p : List ℕ). p ∷ rest) (found_piece tab (at + 1) line refl))
 
       -- the next is no number
-      pub gather_not : r.plain ≡ false → NumbersRead count (fields_after from line) before values false
-      gather_not p =
+      pub gather_not : {after : List ℕ} → None ≡ counted_at (at + 1) line → NumbersRead count (fields_after from line) before after false
+      gather_not n =
           refuted
           (ap (λ (t : Bool). eqb (length (fields_after from line)) count && t)
           (ap all_numbers next ∙ all_join g.done (field ∷ rest)
-          ∙ ap (λ (t : Bool). all_numbers g.done && (t && all_numbers rest)) (number_not tab (at + 1) line n p) ∙ and_false (all_numbers g.done))
+          ∙ ap (λ (t : Bool). all_numbers g.done && (t && all_numbers rest)) (number_not tab (at + 1) line n) ∙ and_false (all_numbers g.done))
           ∙ and_false (eqb (length (fields_after from line)) count))
 
       -- the next is one
-      module _ (p : r.plain ≡ true) where
+      module _ {r : Counted} (n : Some r ≡ counted_at (at + 1) line) where
         said : (is_number field ≡ true) × (r.value ≡ value field) × (r.end ≡ place_of tab (at + 1) line)
-        said = number_said tab (at + 1) line n p
+        said = number_said tab (at + 1) line n
 
         pub gather_next : k < count → Gathered line from count before (set values k r.value) r.end (k + 1)
         gather_next m =
@@ -134,6 +135,24 @@ module _ (line : List ℕ) (from count : ℕ) (before : List ℕ) (h : from ≤ 
               test = sym (rw (there, g.good, eq-eqb (length g.done) count (omega (arith, g.size, g.few, m))));
               values = λ t. g.wrote ∙ ap (λ (fs : List (List ℕ)). put before 0 (map value fs)) (sym there);
             }
+
+-- as many numbers lent as a longer buffer has at its front
+pub lent_front : {count : ℕ} {fs : List (List ℕ)} {before after : List ℕ} {r : Bool} → count ≤ length before
+    → NumbersRead (length (take count before)) fs (take count before) after r → NumbersRead count fs before (after ++ drop count before) r
+lent_front {count = count} {fs = fs} {before = before} {after = after} {r = r} l n =
+    record {
+      test = test;
+      values = λ t.
+          let many : length (map value fs) ≡ count = length-map fs value ∙ eqb-true (length fs) count (both (eqb (length fs) count) (all_numbers fs) (sym test ∙ t)).0 in
+          ap (λ (l : List ℕ). l ++ drop count before) (n.values t ∙ put_front (take count before) (map value fs))
+          ∙ append_assoc (map value fs) (drop (length (map value fs)) (take count before)) (drop count before)
+          ∙ ap (λ (l : List ℕ). map value fs ++ (l ++ drop count before)) (drop_of_length-le (take count before) (omega (arith, many, length-take count before)))
+          ∙ ap (λ (k : ℕ). map value fs ++ drop k before) (sym many)
+          ∙ sym (put_front before (map value fs));
+    }
+  where
+    test : r ≡ (eqb (length fs) count && all_numbers fs)
+    test = n.test ∙ ap (λ (k : ℕ). eqb (length fs) k && all_numbers fs) (length-take-le count before l)
 
 -- ---- the values, where zeros stood
 

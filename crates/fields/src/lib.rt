@@ -8,24 +8,21 @@ ghost use Rattle.fields.specs.Fields.{NumbersRead};
 
 use text::number_from;
 
-// Whether just so many fields stand behind a place, each a number; they are then laid from the front.
-pub fn read_numbers(line: &[u8], from: usize, count: usize, values: &mut [u64]) -> bool
-    requires { (from ≤ length line.now) × (count ≤ length values.old) }
-    ensures { NumbersRead count (fields_after from line.now) values.old values.new result }
+// Whether as many fields stand behind a place as numbers are lent, each a number; they are then laid from the front.
+pub fn read_numbers(line: &[u8], from: usize, values: &mut [u64]) -> bool
+    requires { from ≤ length line.now }
+    ensures { NumbersRead (length values.old) (fields_after from line.now) values.old values.new result }
 {
     let mut at = from;
-    let mut k: usize = 0;
-    while k < count {
+    for value in values.iter_mut() {
         if line.len() <= at {
             return false;
         }
-        let field = number_from(line, at + 1);
-        if !field.plain {
+        let Some(field) = number_from(line, at + 1) else {
             return false;
-        }
-        values[k] = field.value;
+        };
+        *value = field.value;
         at = field.end;
-        k += 1;
     }
     line.len() <= at
 }

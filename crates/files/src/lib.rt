@@ -9,4 +9,5 @@ pub mod moves;
 pub mod out;
 pub mod room;
 pub mod texts;
+pub mod trouble;
 pub mod whole;

@@ -1,54 +1,61 @@
 // The messages of a run, as they are typed: numbers of a byte in decimal, parted by commas.
 // What they say is `typed`'s; here they become bytes.
-use crate::input::Found;
+ghost use Rattle.std.specs.Prelude.{◌≤◌, length, IfOk, IfSome};
+
+use crate::room::front;
 use system::System;
-use told::complaint::complain;
+use told::Said;
 use typed::{Spelling, Taken};
 
-fn bad(system: System) -> Found {
-    complain(
-        system,
-        b"aps2: --messages: numbers from 0 to 255, parted by commas and nothing else, as 7,0,255\n",
+// The numbers of a text that is not empty: the last has its comma here.
+fn numbers_in<'a>(text: &[u8], room: &'a mut [u64]) -> Option<&'a [u64]> {
+    let last = typed::take(room, Taken::start(), Spelling::Decimal, text);
+    let all = typed::take(room, last, Spelling::Decimal, b",");
+    if all.trouble_in(Spelling::Decimal).is_some() {
+        return None;
+    }
+    Some(front(room, all.count))
+}
+
+// As many bytes as numbers, where there is room for them; how many.
+fn lay_bytes(numbers: &[u64], out: &mut [u8]) -> Option<usize>
+    ensures { IfSome result (λ n. n ≤ length out.new) }
+{
+    let n = numbers.len();
+    if out.len() < n {
+        return None;
+    }
+    for (byte, number) in out.iter_mut().zip(numbers) {
+        *byte = (*number & 0xff) as u8;
+    }
+    Some(n)
+}
+
+// How many messages an argument tells, laid at the start of a buffer; none where there is no such argument, or an empty one. The numbers are
+// lent for the way.
+pub fn messages_of(
+    system: System,
+    argument: Option<usize>,
+    numbers: &mut [u64],
+    out: &mut [u8],
+) -> Result<usize, Said>
+    ensures { IfOk result (λ n. n ≤ length out.new) }
+{
+    let Some(argument) = argument else {
+        return Ok(0);
+    };
+    let mut buffer = io::large_buffer();
+    let text = system.name(argument, &mut buffer);
+    if text.is_empty() {
+        return Ok(0);
+    }
+    if let Some(numbers) = numbers_in(text, numbers) {
+        if let Some(n) = lay_bytes(numbers, out) {
+            return Ok(n);
+        }
+    }
+    eprintln!(system;
+        "aps2: --messages: numbers from 0 to 255, parted by commas and nothing else, as 7,0,255"
     );
-    Found::nothing()
-}
-
-// As many bytes as numbers, where there is room for them.
-fn as_bytes(system: System, numbers: &[u64], out: &mut [u8]) -> Found {
-    if out.len() < numbers.len() {
-        return bad(system);
-    }
-    let mut i: usize = 0;
-    while i < numbers.len() {
-        out[i] = (numbers[i] & 0xff) as u8;
-        i += 1;
-    }
-    Found::of(i)
-}
-
-// A text that is not empty: the last number has its comma here.
-fn hear(system: System, text: &[u8], numbers: &mut [u64], out: &mut [u8]) -> Found {
-    let last = typed::take(numbers, Taken::start(), Spelling::Decimal, text);
-    let all = typed::take(numbers, last, Spelling::Decimal, b",");
-    let n = all.count as usize;
-    if all.trouble_in(Spelling::Decimal) != 0 {
-        return bad(system);
-    }
-    if numbers.len() < n {
-        return bad(system);
-    }
-    as_bytes(system, &numbers[..n], out)
-}
-
-// The messages that an argument tells; none where there is no such argument, or an empty one. The numbers are lent for the way.
-pub fn messages_of(system: System, argument: usize, numbers: &mut [u64], out: &mut [u8]) -> Found {
-    if argument == 0 {
-        return Found::of(0);
-    }
-    let mut text = io::large_buffer();
-    let n = system.name(argument, &mut text);
-    if n == 0 {
-        return Found::of(0);
-    }
-    hear(system, &text[..n], numbers, out)
+    Err(Said)
 }

@@ -2,23 +2,28 @@
 // It is moved whole, or refused with its line.
 ghost use Rattle.std.specs.Prelude.{◌≤◌, length};
 
-use crate::input::Found;
 use crate::room;
-use crate::room::Text;
-use crate::texts::{complain_of_length, refused_at};
+use crate::room::front;
+use crate::texts::complain_of_length;
+use crate::trouble::{Refused, Trouble};
 use crate::whole::{Kept, text_of};
-use editions::Moved;
 use instruction::Rules;
 use system::System;
 use to_addresses::to_addresses;
 use to_labels::to_labels;
 
-// What is moved: the listing of words, or the text that an argument names; and which edition it gets.
+// What a listing gets in place of what it has.
 #[derive(Clone, Copy)]
 pub enum Way {
-    Listed(Rules),
     ToLabels,
     ToAddresses,
+}
+
+// What is lent for the text that a listing moves to, and for a line that is refused.
+#[derive(Drop)]
+pub struct Rooms<'a> {
+    pub text: &'a mut [u8],
+    pub line: &'a mut [u8],
 }
 
 // The line of a word, where there is room; tells where it ends.
@@ -33,83 +38,51 @@ fn lay_word(address: u64, word: u64, rules: Rules, text: &mut [u8], at: usize) -
     at + n
 }
 
-// The lines of words, from a place on.
-fn lay_words(words: &[u64], rules: Rules, text: &mut [u8], start: usize) -> usize
-    requires { start ≤ length text.old }
-    ensures { result ≤ length text.new }
-{
-    let mut at = start;
-    let mut a: usize = 0;
-    while a < words.len() {
-        at = lay_word(a as u64, words[a], rules, text, at);
-        a += 1;
+// The listing of words, as far as there is room. That of no words is its header, whatever the rules.
+fn lay_listing<'a>(words: &[u64], rules: Rules, text: &'a mut [u8]) -> &'a [u8] {
+    let mut at = listing::list(b"", rules, text).min(text.len());
+    for (address, word) in words.iter().enumerate() {
+        at = lay_word(address as u64, *word, rules, text, at);
     }
-    at
+    &text[..at]
 }
 
-// The listing of no words is its header, whatever the rules.
-fn lay_listing(words: &[u64], rules: Rules, text: &mut [u8]) -> usize
-    ensures { result ≤ length text.new }
-{
-    let start = listing::list(b"", rules, text);
-    if text.len() < start {
-        return 0;
-    }
-    lay_words(words, rules, text, start)
-}
-
-fn text_for(system: System, way: Way, argument: usize, words: &[u64], text: &mut [u8]) -> Kept
-    ensures { result.count ≤ length text.new }
-{
-    match way {
-        Way::Listed(rules) => {
-            let count = lay_listing(words, rules, text);
-            Kept {
-                count,
-                more: false,
-                failure: None,
-            }
+impl Way {
+    // What a text moves to; of one that is refused, the line is laid at the start of what is lent.
+    fn moved<'a>(self, text: &[u8], rooms: Rooms<'a>) -> Result<&'a [u8], Trouble<'a>> {
+        let Rooms { text: out, line } = rooms;
+        let told = match self {
+            Way::ToLabels => to_labels(text, out),
+            Way::ToAddresses => to_addresses(text, out),
+        };
+        match told.number {
+            0 => Ok(front(out, told.size)),
+            number => Err(Refused::at(number, told.line).shown_in(text, line)),
         }
-        _ => text_of(system, argument, text),
     }
 }
 
-fn moved(text: &[u8], way: Way, out: &mut [u8]) -> Moved {
-    match way {
-        Way::ToAddresses => to_addresses(text, out),
-        _ => to_labels(text, out),
-    }
-}
-
-// What a text moves to, and how many bytes that are; of one that is refused, the line is laid at the start of what is lent.
-fn moved_in(text: &[u8], way: Way, out: &mut [u8], line: &mut [u8]) -> Found {
-    let told = moved(text, way, out);
-    if told.number != 0 {
-        return refused_at(text, told.number, told.line, line);
-    }
-    Found::of(told.size as usize)
-}
-
-// The same of what is to be moved.
-pub fn moved_of(
-    system: System,
-    way: Way,
-    argument: usize,
+// The listing of words, with labels.
+pub fn labelled<'a>(
     words: &[u64],
-    out: &mut [u8],
-    line: &mut [u8],
-) -> Found {
-    let mut text = room::for_text();
-    let kept = text_for(system, way, argument, words, &mut text);
-    if kept.failure.is_some() {
-        return Found::nothing();
+    rules: Rules,
+    rooms: Rooms<'a>,
+) -> Result<&'a [u8], Trouble<'a>> {
+    let mut buffer = room::for_text();
+    let text = lay_listing(words, rules, &mut buffer);
+    Way::ToLabels.moved(text, rooms)
+}
+
+// The listing of the file that an argument names.
+pub fn moved_of<'a>(
+    system: System,
+    argument: usize,
+    way: Way,
+    rooms: Rooms<'a>,
+) -> Result<&'a [u8], Trouble<'a>> {
+    let mut buffer = room::for_text();
+    match text_of(system, argument, &mut buffer)? {
+        Kept::Whole(text) => way.moved(text, rooms),
+        Kept::Part(_) => Err(complain_of_length(system, argument, None, true).into()),
     }
-    if kept.more {
-        complain_of_length(system, argument, 0, true);
-        return Found::nothing();
-    }
-    if kept.count <= Text::ROOM {
-        return moved_in(&text[..kept.count], way, out, line);
-    }
-    Found::nothing()
 }

@@ -1,123 +1,61 @@
 // All bytes of a file or of standard input, as far as there is room for them.
 // They come in pieces of any size.
-ghost use Rattle.std.specs.Prelude.{◌≤◌, length};
+ghost use Rattle.std.specs.Prelude.{◌≤◌, length, IfOk};
+ghost use Rattle.files.specs.Kept.{kept_length};
 
-use std::io::{Error, Read};
-use system::System;
-use text::same;
-use told::complaint::{complain, complain_of_file};
+use std::io::Read;
+use system::{Input, System, fill};
+use told::{Said, complain_of_file};
 
-// How many bytes are kept, whether there are more, and why they could not be read.
+// A text that was read to its end, or the part of one that there is room for.
 #[derive(Clone, Copy)]
-pub struct Kept {
-    pub count: usize,
-    pub more: bool,
-    pub failure: Option<Error>,
-}
-
-impl Kept {
-    fn nothing(failure: Error) -> Kept
-        ensures { result.count ≤ 0 }
-    {
-        Kept {
-            count: 0,
-            more: false,
-            failure: Some(failure),
-        }
-    }
-}
-
-fn read_on(input: &mut impl Read, text: &mut [u8], at: usize) -> Kept
-    requires { at ≤ length text.old }
-    ensures { result.count ≤ length text.new }
-{
-    match input.read(&mut text[at..]) {
-        Ok(n) => Kept {
-            count: at + n,
-            more: n != 0,
-            failure: None,
-        },
-        Err(error) => Kept {
-            count: at,
-            more: false,
-            failure: Some(error),
-        },
-    }
+pub enum Kept<'a> {
+    Whole(&'a [u8]),
+    Part(&'a [u8]),
 }
 
 // Whether anything follows.
 fn has_more(input: &mut impl Read) -> bool {
     let mut next = [0u8; 1];
-    match input.read(&mut next) {
-        Ok(n) => 0 < n,
-        Err(_) => false,
-    }
+    input.read(&mut next).is_ok_and(|n| 0 < n)
 }
 
-// A proved loop has to end, and nothing says that an input does; so it counts its turns down from a number that no run uses up.
-fn read_text(input: &mut impl Read, text: &mut [u8]) -> Kept
-    ensures { result.count ≤ length text.new }
+fn text_in<'a>(input: &mut impl Read, room: &'a mut [u8]) -> std::io::Result<Kept<'a>>
+    ensures { IfOk result (λ kept. kept_length kept ≤ length room.old) }
 {
-    let mut kept = Kept {
-        count: 0,
-        more: true,
-        failure: None,
-    };
-    let mut turns = u64::MAX;
-    while turns > 0 && kept.more && kept.count < text.len() {
-        kept = read_on(input, text, kept.count);
-        turns -= 1;
-    }
-    if kept.more {
-        kept.more = has_more(input);
-    }
-    kept
+    let n = fill(input, room)?;
+    let is_part = n == room.len() && has_more(input);
+    let text = &room[..n];
+    Ok(if is_part {
+        Kept::Part(text)
+    } else {
+        Kept::Whole(text)
+    })
 }
 
-// What cannot be read is said.
-fn text_in(system: System, input: &mut impl Read, path: &[u8], text: &mut [u8]) -> Kept
-    ensures { result.count ≤ length text.new }
+fn text_named<'a>(system: System, name: &[u8], room: &'a mut [u8]) -> std::io::Result<Kept<'a>>
+    ensures { IfOk result (λ kept. kept_length kept ≤ length room.old) }
 {
-    let kept = read_text(input, text);
-    if let Some(error) = kept.failure {
-        complain_of_file(system, path, error);
-    }
-    kept
+    let mut input = Input::named(system, name)?;
+    text_in(&mut input, room)
 }
 
-fn text_in_file(system: System, path: &[u8], text: &mut [u8]) -> Kept
-    ensures { result.count ≤ length text.new }
+// The text of the file that an argument names. What cannot be read is said.
+pub fn text_of<'a>(system: System, argument: usize, room: &'a mut [u8]) -> Result<Kept<'a>, Said>
+    ensures { IfOk result (λ kept. kept_length kept ≤ length room.old) }
 {
-    match system::open(system, path) {
-        Ok(mut file) => text_in(system, &mut file, path, text),
-        Err(error) => {
-            complain_of_file(system, path, error);
-            Kept::nothing(error)
-        }
-    }
-}
-
-// The text of the file that an argument names.
-pub fn text_of(system: System, argument: usize, text: &mut [u8]) -> Kept
-    ensures { result.count ≤ length text.new }
-{
-    let mut name = io::large_buffer();
-    let n = system.name(argument, &mut name);
-    let path = &name[..n];
-    if same(path, b"-") {
-        return text_in(system, &mut system.input(), b"standard input", text);
-    }
-    text_in_file(system, path, text)
+    let mut buffer = io::large_buffer();
+    let name = system.name(argument, &mut buffer);
+    text_named(system, name, room).map_err(|error| complain_of_file(
+        system,
+        Input::shown(name),
+        error,
+    ))
 }
 
 // The name by which a person knows the file that an argument names.
 pub fn complain_by_name(system: System, argument: usize) {
-    let mut name = io::large_buffer();
-    let n = system.name(argument, &mut name);
-    let path = &name[..n];
-    if same(path, b"-") {
-        complain(system, b"standard input");
-    } else {
-        complain(system, path);
-    }
+    let mut buffer = io::large_buffer();
+    let name = system.name(argument, &mut buffer);
+    system.eprint_bytes(Input::shown(name));
 }

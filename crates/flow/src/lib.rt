@@ -33,12 +33,12 @@ impl Move {
     pub fn at(word: u64) -> Move
         ensures { result ≡ move_of (spelled_by word).body }
     {
-        let to = (word >> WordAddress::PLACE.low) % (1 << WordAddress::PLACE.width);
+        let to = WordAddress::spelled_by(word);
         match Instruction::code_in(word) {
-            Body::REPEAT => Move::Loop(WordAddress(to)),
+            Body::REPEAT => Move::Loop(to),
             Body::CMP => Move::Compare,
-            Body::GOTO => Move::Jump(WordAddress(to)),
-            Body::CALL => Move::Enter(WordAddress(to)),
+            Body::GOTO => Move::Jump(to),
+            Body::CALL => Move::Enter(to),
             Body::RETURN => Move::Leave,
             _ => Move::Other,
         }

@@ -1,6 +1,6 @@
 -- Laws of the instruction's definitions, for its own functions and for those who read and write words.
 -- Assumes nothing.
-use mathlib.Core.Path.{◌≡◌, refl, sym, ap, ◌∙◌}
+use mathlib.Core.Path.{◌≡◌, sym, ap, ◌∙◌}
 use mathlib.Core.Bool.{◌&&◌}
 use mathlib.Core.List.{List, [], ◌∷◌}
 use Prim.Native.Nat.{ℕ, zero, suc, ◌≤◌, zero-le}
@@ -57,6 +57,3 @@ word_other i h = simp (ne_eqb _ _ h)
 pub form_at : (rules : Rules) (w : ℕ) {n k : ℕ} → n ≡ code_in w → n ≡ k → body_form rules (held w write_flag) (body_of k (values_in k w)) ≡ form_of rules (spelled_by w)
 unfolding form_of spelled_by
 form_at rules w e p = ap (λ (c : ℕ). body_form rules (held w write_flag) (body_of c (values_in c w))) (sym p ∙ e)
-
-pub form_past : (rules : Rules) (w : ℕ) {n : ℕ} → n ≡ code_in w → NoneBelow 13 n → 0 ≡ form_of rules (spelled_by w)
-form_past rules w {n = n} e h = ap (body_form rules (held w write_flag)) (sym (body_past (values_in n w) h)) ∙ form_at rules w e refl

@@ -1,7 +1,9 @@
 -- The form numbers 13 to 19 of document 01 and 24 of document 02, which an instruction alone decides: reader and writer give the same ones.
 -- "Form, from the word alone, lowest number wins."
-use Rattle.std.specs.Prelude.{ℕ, ◌%◌, ◌^◌, Bool, false, not, ◌||◌, ◌&&◌, ltb, eqb, leb}
-use Rattle.instruction.specs.Bits.{◌gives◌else◌}
+use Rattle.std.specs.Prelude.{◌≡◌, refl, ℕ, ◌%◌, ◌^◌, Bool, false, not, ◌||◌, ◌&&◌, ltb, eqb, leb}
+use Rattle.std.specs.declared.result.Result.{Result}
+use Rattle.std.specs.declared.result.Result.TheVariants.{Ok, Err}
+use Rattle.instruction.specs.Bits.{pick, ◌gives◌else◌}
 use Rattle.instruction.specs.Table.{wait_op, sync_op}
 use Rattle.instruction.specs.Rules.{is_older}
 use Rattle.instruction.specs.declared.Rules.{Rules}
@@ -10,6 +12,8 @@ use Rattle.instruction.specs.declared.MarkerFields.{MarkerFields}
 use Rattle.instruction.specs.declared.ModulatorFields.{ModulatorFields}
 use Rattle.instruction.specs.declared.WordAddress.{WordAddress}
 use Rattle.instruction.specs.declared.Refusal.{Refusal}
+use Rattle.instruction.specs.declared.BadForm.{BadForm}
+use Rattle.instruction.specs.declared.BadForm.TheVariants.{NoWriteFlag, NoSuchOp, UselessField, TooShort, Askew, WrongNco, WidePhase, WideCount}
 use Rattle.instruction.specs.declared.Instruction.{Instruction}
 use Rattle.instruction.specs.declared.Body.{Body}
 use Rattle.instruction.specs.declared.Body.TheVariants.{Waveform, Marker, Wait, LoadRepeat, Repeat, Cmp, Goto, Call, Return, Sync, Modulator, LoadCmp, Prefetch, Noop}
@@ -17,6 +21,43 @@ use Rattle.instruction.specs.declared.Body.TheVariants.{Waveform, Marker, Wait, 
 -- a refusal that is told by its number alone; 0 refuses nothing
 abbrev pub numbered : ℕ → Refusal
 numbered number = record { number = number; bit = 0 }
+
+-- the number of each thing that a form is refused for
+abbrev pub number_of : BadForm → ℕ
+number_of NoWriteFlag = 13
+number_of NoSuchOp = 14
+number_of UselessField = 15
+number_of TooShort = 16
+number_of Askew = 17
+number_of WrongNco = 18
+number_of WidePhase = 19
+number_of WideCount = 24
+
+-- and what has a number
+abbrev pub form_numbered : ℕ → BadForm
+form_numbered n =
+    pick (eqb n 13) NoWriteFlag
+    (pick (eqb n 14) NoSuchOp
+    (pick (eqb n 15) UselessField
+    (pick (eqb n 16) TooShort
+    (pick (eqb n 17) Askew
+    (pick (eqb n 18) WrongNco
+    (pick (eqb n 19) WidePhase WideCount))))))
+
+pub form_told_apart : (bad : BadForm) → form_numbered (number_of bad) ≡ bad
+form_told_apart NoWriteFlag = refl
+form_told_apart NoSuchOp = refl
+form_told_apart UselessField = refl
+form_told_apart TooShort = refl
+form_told_apart Askew = refl
+form_told_apart WrongNco = refl
+form_told_apart WidePhase = refl
+form_told_apart WideCount = refl
+
+-- the number of what something is refused for, and 0 where it is not refused
+abbrev pub told : {A E : Type 0} → (E → ℕ) → Result A E → ℕ
+told number (Ok a) = 0
+told number (Err bad) = number bad
 
 -- the numbers that tell a bit: 111, 112, 113
 abbrev pub tells_bit : ℕ → Bool

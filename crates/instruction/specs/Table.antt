@@ -1,6 +1,6 @@
 -- The table of document 01, "The word": each op code's name and its payload fields, and what an instruction of that name holds.
 -- The instruction's fields and the word's are the same numbers, left to right.
-use Rattle.std.specs.Prelude.{ℕ, ◌-◌, ◌^◌, Bool, ◌||◌, List, [], ◌∷◌, eqb, get_or}
+use Rattle.std.specs.Prelude.{ℕ, ◌+◌, ◌-◌, ◌^◌, ◌<◌, ◌≤◌, Bool, ◌||◌, List, [], ◌∷◌, eqb, get_or}
 use Rattle.instruction.specs.Bits.{◌to◌}
 use Rattle.instruction.specs.declared.Field.{Field}
 use Rattle.instruction.specs.declared.WaveformFields.{WaveformFields}
@@ -13,6 +13,10 @@ use Rattle.instruction.specs.declared.Body.TheVariants.{Waveform, Marker, Wait, 
 -- "64-bit APS2 words"
 abbrev pub word_bits : ℕ
 word_bits = 64
+
+-- a field lies within a word
+abbrev pub InWord : Field → Type 0
+InWord f = (f.low < word_bits) × (f.width < word_bits) × (f.low + f.width ≤ word_bits)
 
 -- "Header: bits 63-60 op code, 59-58 engine select, 57 reserved, 56 write flag."
 abbrev pub op_code : Field

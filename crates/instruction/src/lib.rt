@@ -2,11 +2,11 @@
 // Reader and writer judge words and wishes by what stands here, so that both mean the same.
 #![tactic(auto)]
 
-ghost use Rattle.std.specs.Prelude.{◌≡◌, not, ◌||◌, ◌<◌, ◌^◌, ltb, eqb};
-ghost use Rattle.instruction.specs.Bits.{◌gives◌else◌, held, held_in};
-ghost use Rattle.instruction.specs.Table.{engine_select, write_flag, engine_op, target, repeat_count, payload_of, code_of, waveform_of, marker_of, comparison_of, modulator_of, body_of};
+ghost use Rattle.std.specs.Prelude.{◌≡◌, ℕ, not, ◌||◌, ◌<◌, ◌^◌, ltb, eqb};
+ghost use Rattle.instruction.specs.Bits.{◌gives◌else◌, span, held, held_in, laid, fits};
+ghost use Rattle.instruction.specs.Table.{InWord, engine_select, write_flag, engine_op, target, repeat_count, payload_of, code_of, waveform_of, marker_of, comparison_of, modulator_of, body_of};
 ghost use Rattle.instruction.specs.Rules.{is_older};
-ghost use Rattle.instruction.specs.Form.{tells_bit, filled, short, one_nco, wide, body_form, form_of};
+ghost use Rattle.instruction.specs.Form.{number_of, form_numbered, form_told_apart, told, numbered, tells_bit, filled, short, one_nco, wide, body_form, form_of};
 ghost use Rattle.instruction.specs.Word.{code_in, values_in, spelled_by, byte_span};
 
 // ---- Rules: what the module is that a word is read for.
@@ -67,13 +67,13 @@ impl QuadSamples {
     pub const PREFETCHED: u64 = 16384;
 
     // 16 or 0, of the count of a play.
-    fn play_form(count: u64) -> u64
-        ensures { result ≡ (short count gives 16 else 0) }
+    fn play_form(count: u64) -> Result<(), BadForm>
+        ensures { told number_of result ≡ (short count gives 16 else 0) }
     {
         if count < QuadSamples::SHORTEST {
-            return Refusal::TOO_SHORT;
+            return Err(BadForm::TooShort);
         }
-        0
+        Ok(())
     }
 }
 
@@ -89,17 +89,17 @@ impl WordAddress {
     pub fn spelled_by(word: u64) -> WordAddress
         ensures { result ≡ record { 0 = held word target } }
     {
-        WordAddress((word >> WordAddress::PLACE.low) % (1 << WordAddress::PLACE.width))
+        WordAddress(WordAddress::PLACE.held(word))
     }
 
-    fn prefetch_form(self) -> u64
-        ensures { (rules : Rules) → result ≡ body_form rules 0 (Body.Prefetch self) }
+    fn prefetch_form(self) -> Result<(), BadForm>
+        ensures { (rules : Rules) → told number_of result ≡ body_form rules 0 (Body.Prefetch self) }
     {
         let address = self.0;
         if address % WordAddress::PREFETCHED != 0 {
-            Refusal::ASKEW
+            Err(BadForm::Askew)
         } else {
-            0
+            Ok(())
         }
     }
 }
@@ -110,6 +110,40 @@ impl WordAddress {
 pub struct Field {
     pub low: u64,
     pub width: u64,
+}
+
+impl Field {
+    // How many numbers the field can hold.
+    fn span(self) -> u64
+        requires { InWord self }
+        ensures { result ≡ span self }
+    {
+        1 << self.width
+    }
+
+    // The number that the field of a word holds.
+    pub fn held(self, word: u64) -> u64
+        requires { InWord self }
+        ensures { result ≡ held word self }
+    {
+        (word >> self.low) % self.span()
+    }
+
+    // Whether a number is not too wide for the field.
+    pub fn fits(self, v: u64) -> bool
+        requires { InWord self }
+        ensures { result ≡ fits self v }
+    {
+        v < self.span()
+    }
+
+    // A number laid into the field, cut to its width.
+    pub fn laid(self, v: u64) -> u64
+        requires { InWord self }
+        ensures { result ≡ laid self v }
+    {
+        (v % self.span()) << self.low
+    }
 }
 
 // The op of WAVEFORM and MARKER, and of WAIT and SYNC, whose own it is.
@@ -130,17 +164,17 @@ impl EngineOp {
     pub fn held_in(word: u64) -> u64
         ensures { result ≡ held word engine_op }
     {
-        (word >> EngineOp::PLACE.low) % (1 << EngineOp::PLACE.width)
+        EngineOp::PLACE.held(word)
     }
 
     // The form of WAIT or SYNC.
-    fn wait_form(write: u64) -> u64
-        ensures { (rules : Rules) → result ≡ body_form rules write Body.Wait }
+    fn wait_form(write: u64) -> Result<(), BadForm>
+        ensures { (rules : Rules) → told number_of result ≡ body_form rules write Body.Wait }
     {
         if write == 0 {
-            Refusal::NO_WRITE_FLAG
+            Err(BadForm::NoWriteFlag)
         } else {
-            0
+            Ok(())
         }
     }
 }
@@ -164,19 +198,15 @@ impl WaveformFields {
         ensures { result ≡ waveform_of (held_in word (payload_of (code_of (Body.Waveform result)))) }
     {
         WaveformFields {
-            op: (word >> EngineOp::PLACE.low) % (1 << EngineOp::PLACE.width),
-            ta: (word >> WaveformFields::TA.low) % (1 << WaveformFields::TA.width),
-            count: QuadSamples(
-                (word >> WaveformFields::COUNT.low) % (1 << WaveformFields::COUNT.width),
-            ),
-            address: QuadSamples(
-                (word >> WaveformFields::ADDRESS.low) % (1 << WaveformFields::ADDRESS.width),
-            ),
+            op: EngineOp::PLACE.held(word),
+            ta: WaveformFields::TA.held(word),
+            count: QuadSamples(WaveformFields::COUNT.held(word)),
+            address: QuadSamples(WaveformFields::ADDRESS.held(word)),
         }
     }
 
-    pub fn form(self) -> u64
-        ensures { (rules : Rules) → result ≡ body_form rules 0 (Body.Waveform self) }
+    pub fn form(self) -> Result<(), BadForm>
+        ensures { (rules : Rules) → told number_of result ≡ body_form rules 0 (Body.Waveform self) }
     {
         let op = self.op;
         let ta = self.ta;
@@ -190,12 +220,12 @@ impl WaveformFields {
         if awaits & ((ta != 0) | (count != 0) | (address != 0))
             | prefetches & ((ta != 0) | (count != 0))
         {
-            return Refusal::USELESS_FIELD;
+            return Err(BadForm::UselessField);
         }
         if prefetches & (address % QuadSamples::PREFETCHED != 0) {
-            return Refusal::ASKEW;
+            return Err(BadForm::Askew);
         }
-        0
+        Ok(())
     }
 }
 
@@ -221,32 +251,29 @@ impl MarkerFields {
         ensures { result ≡ marker_of (held_in word (payload_of (code_of (Body.Marker result)))) }
     {
         MarkerFields {
-            op: (word >> EngineOp::PLACE.low) % (1 << EngineOp::PLACE.width),
-            transition: (word >> MarkerFields::TRANSITION.low)
-                % (1 << MarkerFields::TRANSITION.width),
-            state: (word >> MarkerFields::STATE.low) % (1 << MarkerFields::STATE.width),
-            count: QuadSamples(
-                (word >> MarkerFields::COUNT.low) % (1 << MarkerFields::COUNT.width),
-            ),
+            op: EngineOp::PLACE.held(word),
+            transition: MarkerFields::TRANSITION.held(word),
+            state: MarkerFields::STATE.held(word),
+            count: QuadSamples(MarkerFields::COUNT.held(word)),
         }
     }
 
     // 16, 24 or 0, of the count of a play.
-    fn play_form(count: u64, rules: Rules) -> u64
-        ensures { result ≡ (short count gives 16 else wide rules count gives 24 else 0) }
+    fn play_form(count: u64, rules: Rules) -> Result<(), BadForm>
+        ensures { told number_of result ≡ (short count gives 16 else wide rules count gives 24 else 0) }
     {
         let firmware = rules.firmware;
         if count < QuadSamples::SHORTEST {
-            return Refusal::TOO_SHORT;
+            return Err(BadForm::TooShort);
         }
         if firmware.is_older() & !(count < MarkerFields::OLDER_COUNTS) {
-            return Refusal::WIDE_COUNT;
+            return Err(BadForm::WideCount);
         }
-        0
+        Ok(())
     }
 
-    pub fn form(self, rules: Rules) -> u64
-        ensures { result ≡ body_form rules 0 (Body.Marker self) }
+    pub fn form(self, rules: Rules) -> Result<(), BadForm>
+        ensures { told number_of result ≡ body_form rules 0 (Body.Marker self) }
     {
         let op = self.op;
         let transition = self.transition;
@@ -256,13 +283,13 @@ impl MarkerFields {
             return MarkerFields::play_form(count, rules);
         }
         if op == EngineOp::PREFETCH {
-            return Refusal::NO_SUCH_OP;
+            return Err(BadForm::NoSuchOp);
         }
         let awaits = (op == EngineOp::WAIT_TRIGGER) | (op == EngineOp::WAIT_SYNC);
         if awaits & ((transition != 0) | (state != 0) | (count != 0)) {
-            return Refusal::USELESS_FIELD;
+            return Err(BadForm::UselessField);
         }
-        0
+        Ok(())
     }
 }
 
@@ -276,7 +303,7 @@ impl Repeats {
     pub fn spelled_by(word: u64) -> Repeats
         ensures { result ≡ record { 0 = held word repeat_count } }
     {
-        Repeats((word >> Repeats::PLACE.low) % (1 << Repeats::PLACE.width))
+        Repeats(Repeats::PLACE.held(word))
     }
 }
 
@@ -301,8 +328,8 @@ impl Comparison {
         ensures { result ≡ comparison_of (held_in word (payload_of (code_of (Body.Cmp result)))) }
     {
         Comparison {
-            code: (word >> Comparison::CODE.low) % (1 << Comparison::CODE.width),
-            mask: (word >> Comparison::MASK.low) % (1 << Comparison::MASK.width),
+            code: Comparison::CODE.held(word),
+            mask: Comparison::MASK.held(word),
         }
     }
 }
@@ -358,9 +385,9 @@ impl ModulatorFields {
         ensures { result ≡ modulator_of (held_in word (payload_of (code_of (Body.Modulator result)))) }
     {
         ModulatorFields {
-            op: (word >> ModulatorFields::OP.low) % (1 << ModulatorFields::OP.width),
-            nco: (word >> ModulatorFields::NCO.low) % (1 << ModulatorFields::NCO.width),
-            payload: (word >> ModulatorFields::PAYLOAD.low) % (1 << ModulatorFields::PAYLOAD.width),
+            op: ModulatorFields::OP.held(word),
+            nco: ModulatorFields::NCO.held(word),
+            payload: ModulatorFields::PAYLOAD.held(word),
         }
     }
 
@@ -370,61 +397,58 @@ impl ModulatorFields {
         (nco == ModulatorFields::FIRST_NCO) | (nco == ModulatorFields::SECOND_NCO)
     }
 
-    fn modulate_form(nco: u64, count: u64) -> u64
-        ensures { result ≡ (short count gives 16 else not (one_nco nco) gives 18 else 0) }
+    fn modulate_form(nco: u64, count: u64) -> Result<(), BadForm>
+        ensures { told number_of result ≡ (short count gives 16 else not (one_nco nco) gives 18 else 0) }
     {
         if count < QuadSamples::SHORTEST {
-            return Refusal::TOO_SHORT;
+            return Err(BadForm::TooShort);
         }
         if !ModulatorFields::is_one(nco) {
-            return Refusal::WRONG_NCO;
+            return Err(BadForm::WrongNco);
         }
-        0
+        Ok(())
     }
 
     // 18 or 0, of an op that takes one NCO or both.
-    fn nco_form(nco: u64) -> u64
-        ensures { result ≡ (not (one_nco nco || eqb nco 3) gives 18 else 0) }
+    fn nco_form(nco: u64) -> Result<(), BadForm>
+        ensures { told number_of result ≡ (not (one_nco nco || eqb nco 3) gives 18 else 0) }
     {
         if !(ModulatorFields::is_one(nco) | (nco == ModulatorFields::BOTH_NCOS)) {
-            return Refusal::WRONG_NCO;
+            return Err(BadForm::WrongNco);
         }
-        0
+        Ok(())
     }
 
-    fn reset_form(nco: u64, payload: u64) -> u64
-        ensures { result ≡ (filled payload gives 15 else not (one_nco nco || eqb nco 3) gives 18 else 0) }
+    fn reset_form(nco: u64, payload: u64) -> Result<(), BadForm>
+        ensures { told number_of result ≡ (filled payload gives 15 else not (one_nco nco || eqb nco 3) gives 18 else 0) }
     {
         if payload != 0 {
-            return Refusal::USELESS_FIELD;
+            return Err(BadForm::UselessField);
         }
         ModulatorFields::nco_form(nco)
     }
 
-    fn wait_form(nco: u64, payload: u64) -> u64
-        ensures { result ≡ (filled nco || filled payload gives 15 else 0) }
+    fn wait_form(nco: u64, payload: u64) -> Result<(), BadForm>
+        ensures { told number_of result ≡ (filled nco || filled payload gives 15 else 0) }
     {
         if (nco != 0) | (payload != 0) {
-            return Refusal::USELESS_FIELD;
+            return Err(BadForm::UselessField);
         }
-        0
+        Ok(())
     }
 
-    fn phase_form(nco: u64, phase: u64) -> u64
-        ensures { result ≡ (not (one_nco nco || eqb nco 3) gives 18 else not (ltb phase (2 ^ 30)) gives 19 else 0) }
+    fn phase_form(nco: u64, phase: u64) -> Result<(), BadForm>
+        ensures { told number_of result ≡ (not (one_nco nco || eqb nco 3) gives 18 else not (ltb phase (2 ^ 30)) gives 19 else 0) }
     {
-        let chosen = ModulatorFields::nco_form(nco);
-        if chosen != 0 {
-            return chosen;
-        }
+        ModulatorFields::nco_form(nco)?;
         if !(phase < ModulatorFields::PHASES) {
-            return Refusal::WIDE_PHASE;
+            return Err(BadForm::WidePhase);
         }
-        0
+        Ok(())
     }
 
-    pub fn form(self) -> u64
-        ensures { (rules : Rules) → result ≡ body_form rules 0 (Body.Modulator self) }
+    pub fn form(self) -> Result<(), BadForm>
+        ensures { (rules : Rules) → told number_of result ≡ body_form rules 0 (Body.Modulator self) }
     {
         let op = self.op;
         let nco = self.nco;
@@ -436,14 +460,38 @@ impl ModulatorFields {
             ModulatorFields::SET_INCREMENT => ModulatorFields::phase_form(nco, payload),
             ModulatorFields::WAIT_SYNC => ModulatorFields::wait_form(nco, payload),
             ModulatorFields::SET_OFFSET => ModulatorFields::phase_form(nco, payload),
-            ModulatorFields::RESERVED => Refusal::NO_SUCH_OP,
+            ModulatorFields::RESERVED => Err(BadForm::NoSuchOp),
             ModulatorFields::UPDATE_FRAME => ModulatorFields::phase_form(nco, payload),
-            _ => 0,
+            _ => Ok(()),
         }
     }
 }
 
 // ---- Refusals: one number each.
+
+// What something is refused for.
+pub trait Numbered {
+    ghost number_of: { Self → ℕ };
+
+    // What has a number.
+    ghost numbered: { ℕ → Self };
+
+    fn number(self) -> u64
+        ensures { result ≡ number_of self };
+
+    // No two have one number.
+    ghost told_apart: { (bad : Self) → numbered (number_of bad) ≡ bad };
+}
+
+// The number of what something is refused for, 0 where it is not refused.
+pub fn told<E: Numbered>(asked: Result<(), E>) -> u64
+    ensures { result ≡ told E.number_of asked }
+{
+    match asked {
+        Ok(()) => 0,
+        Err(bad) => bad.number(),
+    }
+}
 
 // The bit is the one that 111, 112 and 113 are given for, and 0 beside every other number.
 #[derive(Clone, Copy)]
@@ -457,24 +505,7 @@ impl Refusal {
 
     pub const NOT_ITS_OP: u64 = 12;
 
-    pub const NO_WRITE_FLAG: u64 = 13;
-
-    pub const NO_SUCH_OP: u64 = 14;
-
-    pub const USELESS_FIELD: u64 = 15;
-
-    pub const TOO_SHORT: u64 = 16;
-
-    pub const ASKEW: u64 = 17;
-
-    pub const WRONG_NCO: u64 = 18;
-
-    pub const WIDE_PHASE: u64 = 19;
-
     pub const TOO_WIDE: u64 = 23;
-
-    // Of a marker's play, for older firmware.
-    pub const WIDE_COUNT: u64 = 24;
 
     // A bit is set that is not named: the header's reserved one, one above the highest field, one in a gap.
     pub const RESERVED_BIT: u64 = 111;
@@ -483,10 +514,52 @@ impl Refusal {
 
     pub const BIT_IN_GAP: u64 = 113;
 
+    // Told by its number alone.
+    pub fn numbered(number: u64) -> Refusal
+        ensures { result ≡ numbered number }
+    {
+        Refusal { number, bit: 0 }
+    }
+
     pub fn tells_bit(self) -> bool
         ensures { result ≡ tells_bit self.number }
     {
         (Refusal::RESERVED_BIT <= self.number) & (self.number <= Refusal::BIT_IN_GAP)
+    }
+}
+
+// What the form of an instruction is refused for.
+#[derive(Clone, Copy, PartialEq, Eq)]
+pub enum BadForm {
+    NoWriteFlag,
+    NoSuchOp,
+    UselessField,
+    TooShort,
+    Askew,
+    WrongNco,
+    WidePhase,
+    // Of a marker's play, for older firmware.
+    WideCount,
+}
+
+impl Numbered for BadForm {
+    ghost number_of = { number_of };
+
+    ghost numbered = { form_numbered };
+
+    ghost told_apart = { form_told_apart };
+
+    fn number(self) -> u64 {
+        match self {
+            BadForm::NoWriteFlag => 13,
+            BadForm::NoSuchOp => 14,
+            BadForm::UselessField => 15,
+            BadForm::TooShort => 16,
+            BadForm::Askew => 17,
+            BadForm::WrongNco => 18,
+            BadForm::WidePhase => 19,
+            BadForm::WideCount => 24,
+        }
     }
 }
 
@@ -546,19 +619,19 @@ impl Instruction {
     pub fn code_in(word: u64) -> u64
         ensures { result ≡ code_in word }
     {
-        (word >> Instruction::CODE.low) % (1 << Instruction::CODE.width)
+        Instruction::CODE.held(word)
     }
 
     pub fn engine_in(word: u64) -> u64
         ensures { result ≡ held word engine_select }
     {
-        (word >> Instruction::ENGINE.low) % (1 << Instruction::ENGINE.width)
+        Instruction::ENGINE.held(word)
     }
 
     pub fn write_in(word: u64) -> u64
         ensures { result ≡ held word write_flag }
     {
-        (word >> Instruction::WRITE.low) % (1 << Instruction::WRITE.width)
+        Instruction::WRITE.held(word)
     }
 
     // The instruction that the fields of a word spell, whatever else is wrong with the word.
@@ -573,30 +646,15 @@ impl Instruction {
     }
 
     // The form number of the instruction that the fields of a word spell.
-    pub fn form_in(word: u64, rules: Rules) -> u64
-        ensures { result ≡ form_of rules (spelled_by word) }
+    pub fn form_in(word: u64, rules: Rules) -> Result<(), BadForm>
+        ensures { told number_of result ≡ form_of rules (spelled_by word) }
     {
-        match Instruction::code_in(word) {
-            Body::WAVEFORM => WaveformFields::spelled_by(word).form(),
-            Body::MARKER => MarkerFields::spelled_by(word).form(rules),
-            Body::WAIT => EngineOp::wait_form(Instruction::write_in(word)),
-            Body::LOAD_REPEAT => 0,
-            Body::REPEAT => 0,
-            Body::CMP => 0,
-            Body::GOTO => 0,
-            Body::CALL => 0,
-            Body::RETURN => 0,
-            Body::SYNC => EngineOp::wait_form(Instruction::write_in(word)),
-            Body::MODULATOR => ModulatorFields::spelled_by(word).form(),
-            Body::LOAD_CMP => 0,
-            Body::PREFETCH => WordAddress::spelled_by(word).prefetch_form(),
-            _ => 0,
-        }
+        Instruction::spelled_by(word).form(rules)
     }
 
     // The form number 13 to 19 or 24, or 0.
-    pub fn form(self, rules: Rules) -> u64
-        ensures { result ≡ form_of rules self }
+    pub fn form(self, rules: Rules) -> Result<(), BadForm>
+        ensures { told number_of result ≡ form_of rules self }
     {
         let body = self.body;
         body.form(self.write, rules)
@@ -675,24 +733,24 @@ impl Body {
         }
     }
 
-    fn form(self, write: u64, rules: Rules) -> u64
-        ensures { result ≡ body_form rules write self }
+    fn form(self, write: u64, rules: Rules) -> Result<(), BadForm>
+        ensures { told number_of result ≡ body_form rules write self }
     {
         match self {
             Body::Waveform(f) => f.form(),
             Body::Marker(f) => f.form(rules),
             Body::Wait => EngineOp::wait_form(write),
-            Body::LoadRepeat(_) => 0,
-            Body::Repeat(_) => 0,
-            Body::Cmp(_) => 0,
-            Body::Goto(_) => 0,
-            Body::Call(_) => 0,
-            Body::Return(_) => 0,
+            Body::LoadRepeat(_) => Ok(()),
+            Body::Repeat(_) => Ok(()),
+            Body::Cmp(_) => Ok(()),
+            Body::Goto(_) => Ok(()),
+            Body::Call(_) => Ok(()),
+            Body::Return(_) => Ok(()),
             Body::Sync => EngineOp::wait_form(write),
             Body::Modulator(f) => f.form(),
-            Body::LoadCmp(_) => 0,
+            Body::LoadCmp(_) => Ok(()),
             Body::Prefetch(a) => a.prefetch_form(),
-            Body::Noop => 0,
+            Body::Noop => Ok(()),
         }
     }
 }

@@ -4,6 +4,7 @@ use Rattle.std.specs.Prelude.{ℕ, List, ◌≡◌}
 use Rattle.buffer.specs.Put.{put}
 use Rattle.jumps.specs.State.{Did, state_of}
 use Rattle.jumps.specs.declared.Core.{Core}
+use Rattle.jumps.specs.declared.Arrays.{Arrays}
 use Rattle.jumps.specs.declared.State.{State}
 use Rattle.jumps.specs.declared.Stepped.{Stepped}
 
@@ -18,9 +19,16 @@ pub record Traced (d : Did) (k : ℕ) (before after : List ℕ) (r : Stepped) (r
   pub trace : after ≡ put before k d.out
 
 -- the state as lent: its core by value, and its arrays
-abbrev pub state_in : Core → List ℕ → List ℕ → List ℕ → List ℕ → State
-state_in core returns counters waits totals = state_of core returns counters waits totals
+abbrev pub state_in : Core → Arrays → State
+state_in core a = state_of core a.returns a.counters a.waits a.totals
 
--- what is left of it: the trace before and after, the answer, and the arrays
-abbrev pub Leaves : Did → ℕ → List ℕ → List ℕ → Stepped → List ℕ → List ℕ → List ℕ → List ℕ → Type 0
-Leaves d k before after r returns counters waits totals = Traced d k before after r returns counters waits totals
+abbrev pub arrays_of : State → Arrays
+arrays_of s = record { returns = s.returns; counters = s.counters; waits = s.waits; totals = s.totals }
+
+-- what is left of it
+abbrev pub DoneIn : Did → Stepped → Arrays → Type 0
+DoneIn d r a = Done d r a.returns a.counters a.waits a.totals
+
+-- and of the trace, before and after
+abbrev pub Leaves : Did → ℕ → List ℕ → List ℕ → Stepped → Arrays → Type 0
+Leaves d k before after r a = Traced d k before after r a.returns a.counters a.waits a.totals

@@ -1,3 +1,4 @@
+pub mod Halt
 pub mod State
 pub mod Lent
 pub mod Jumps

@@ -8,6 +8,7 @@ use Rattle.dispatch.specs.Engines.{engine_count}
 use Rattle.jumps.specs.declared.Condition.{Condition}
 use Rattle.jumps.specs.declared.Condition.TheVariants.{Absent}
 use Rattle.jumps.specs.declared.Core.{Core}
+use Rattle.jumps.specs.declared.Arrays.{Arrays}
 use Rattle.jumps.specs.declared.State.{State}
 use Rattle.jumps.specs.declared.Setting.{Setting}
 use Rattle.jumps.specs.declared.Stepped.{Stepped}
@@ -35,6 +36,9 @@ fresh_core = record { address = record { 0 = 0 }; steps = 0; used = 0; sent = 0;
 
 abbrev pub fresh : State
 fresh = state_of fresh_core (replicate stack_depth 0) (replicate stack_depth 0) (replicate engine_count 0) (replicate engine_count 0)
+
+abbrev pub fresh_arrays : Arrays
+fresh_arrays = record { returns = fresh.returns; counters = fresh.counters; waits = fresh.waits; totals = fresh.totals }
 
 -- ---- one field of the core anew
 

@@ -1,20 +1,22 @@
 // The state of a run, and what changes it without dispatch: jumps, the repeat counter, comparison and messages.
-// The core goes by value and the stack is lent beside it: measured, this runs as plain C does.
+// The core goes by value and the arrays are lent beside it: measured, this runs as plain C does.
 #![tactic(auto)]
 
-ghost use Rattle.std.specs.Prelude.{◌≡◌, List, ℕ, ◌<◌};
+ghost use Rattle.std.specs.Prelude.{◌≡◌, ◌<◌};
 ghost use Rattle.instruction.specs.Bits.{pick};
 ghost use Rattle.sequence.specs.Bounds.{budget_limit};
-ghost use Rattle.jumps.specs.State.{state_of, fresh_core, fresh, with_message, with_sent, with_counter, with_condition, stopped};
-ghost use Rattle.jumps.specs.Lent.{Done};
+ghost use Rattle.jumps.specs.Halt.{halt_number, halt_numbered, halt_told_apart, halt_told_by};
+ghost use Rattle.jumps.specs.State.{fresh_core, fresh_arrays, fresh, with_message, with_sent, with_counter, with_condition, stopped};
+ghost use Rattle.jumps.specs.Lent.{state_in, arrays_of, DoneIn};
+ghost use Rattle.jumps.specs.declared.Arrays.{Arrays};
 ghost use Rattle.jumps.specs.Jumps.{goes, nexts, repeat_of, compares, compare_of, acts, goto_of, call_of, return_of, message_of, hold_of};
 ghost use Rattle.jumps.specs.Asked.{Counts, CanHold, CanReturn};
 
 use dispatch::Engines;
-use instruction::{Comparison, Instruction, QuadSamples, Refusal, Rules, WordAddress};
-use sequence::Sequence;
+use instruction::{Comparison, Instruction, Numbered, QuadSamples, Refusal, Rules, WordAddress};
+use sequence::{Fault, Sequence};
 
-#[derive(Clone, Copy)]
+#[derive(Clone, Copy, PartialEq, Eq)]
 pub enum Condition {
     Absent,
     Fails,
@@ -33,6 +35,15 @@ pub struct Core {
     pub condition: Condition,
     pub held: u64,
     pub depth: u64,
+}
+
+// The stack's entries, and what each engine counts: lent beside the core while a run goes on.
+#[derive(Clone, Copy)]
+pub struct Arrays {
+    pub returns: [u64; Sequence::STACK as usize],
+    pub counters: [u64; Sequence::STACK as usize],
+    pub waits: [u64; Engines::COUNT],
+    pub totals: [u64; Engines::COUNT],
 }
 
 #[derive(Clone, Copy)]
@@ -59,12 +70,56 @@ pub struct Stepped {
     pub core: Core,
 }
 
+// Why a run halts that is neither refused nor faulted.
+#[derive(Clone, Copy, PartialEq, Eq)]
+pub enum Halt {
+    BudgetSpent,
+    TriggerAwaited,
+    MessageAwaited,
+    TraceFull,
+}
+
+impl Halt {
+    // No number of a halt is lower.
+    pub const FIRST: u64 = 40;
+
+    // The halt that has a number.
+    pub fn told_by(number: u64) -> Option<Halt>
+        ensures { result ≡ halt_told_by number }
+    {
+        match number {
+            Halt::FIRST => Some(Halt::BudgetSpent),
+            41 => Some(Halt::TriggerAwaited),
+            42 => Some(Halt::MessageAwaited),
+            43 => Some(Halt::TraceFull),
+            _ => None,
+        }
+    }
+}
+
+impl Numbered for Halt {
+    ghost number_of = { halt_number };
+
+    ghost numbered = { halt_numbered };
+
+    ghost told_apart = { halt_told_apart };
+
+    fn number(self) -> u64 {
+        match self {
+            Halt::BudgetSpent => Halt::FIRST,
+            Halt::TriggerAwaited => 41,
+            Halt::MessageAwaited => 42,
+            Halt::TraceFull => 43,
+        }
+    }
+}
+
 impl Stepped {
-    pub const TRIGGER_AWAITED: u64 = 41;
-
-    pub const MESSAGE_AWAITED: u64 = 42;
-
-    pub const TRACE_FULL: u64 = 43;
+    pub fn stop_for<E: Numbered>(why: E, core: Core) -> Stepped
+        ensures { result ≡ stopped (E.number_of why) core }
+    {
+        Stepped::stop(why.number(), core)
+    }
 
     pub fn stop(number: u64, core: Core) -> Stepped
         ensures { result ≡ stopped number core }
@@ -77,7 +132,7 @@ impl Stepped {
         ensures { result ≡ stopped 0 core }
     {
         Stepped {
-            end: Refusal { number: 0, bit: 0 },
+            end: Refusal::numbered(0),
             core,
         }
     }
@@ -227,17 +282,56 @@ impl Core {
     }
 }
 
-impl State {
-    pub fn fresh() -> State
-        ensures { result ≡ fresh }
+impl Arrays {
+    pub fn fresh() -> Arrays
+        ensures { result ≡ fresh_arrays }
     {
-        let core = Core::fresh();
-        State {
-            core,
+        Arrays {
             returns: [0; Sequence::STACK as usize],
             counters: [0; Sequence::STACK as usize],
             waits: [0; Engines::COUNT],
             totals: [0; Engines::COUNT],
+        }
+    }
+}
+
+impl State {
+    pub fn fresh() -> State
+        ensures { result ≡ fresh }
+    {
+        State::of(Core::fresh(), Arrays::fresh())
+    }
+
+    // Put together of its core and what was lent beside it.
+    pub fn of(core: Core, arrays: Arrays) -> State
+        ensures { result ≡ state_in core arrays }
+    {
+        let returns = arrays.returns;
+        let counters = arrays.counters;
+        let waits = arrays.waits;
+        let totals = arrays.totals;
+        State {
+            core,
+            returns,
+            counters,
+            waits,
+            totals,
+        }
+    }
+
+    // What is lent beside the core.
+    pub fn arrays(self) -> Arrays
+        ensures { result ≡ arrays_of self }
+    {
+        let returns = self.returns;
+        let counters = self.counters;
+        let waits = self.waits;
+        let totals = self.totals;
+        Arrays {
+            returns,
+            counters,
+            waits,
+            totals,
         }
     }
 }
@@ -259,14 +353,9 @@ fn holds(code: u64, register: u64, mask: u64) -> bool
 }
 
 // H5, and 31.
-pub fn call(
-    returns: &mut [u64; Sequence::STACK as usize],
-    counters: &mut [u64; Sequence::STACK as usize],
-    s: Core,
-    to: WordAddress,
-) -> Stepped
+pub fn call(arrays: &mut Arrays, s: Core, to: WordAddress) -> Stepped
     requires { Counts s }
-    ensures { (ws ts : List ℕ) → Done (call_of (state_of s returns.old counters.old ws ts) to.0) result returns.new counters.new ws ts }
+    ensures { DoneIn (call_of (state_in s arrays.old) to.0) result arrays.new }
 {
     let condition = s.condition;
     if !condition.acts() {
@@ -274,24 +363,20 @@ pub fn call(
     }
     let depth = s.depth;
     if Sequence::STACK <= depth {
-        return Stepped::stop(Sequence::STACK_FULL, s);
+        return Stepped::stop_for(Fault::StackFull, s);
     }
     let top = depth as usize;
-    returns[top] = s.address.0 + 1;
-    counters[top] = s.counter;
+    arrays.returns[top] = s.address.0 + 1;
+    arrays.counters[top] = s.counter;
     let mut deeper = s;
     deeper.depth = depth + 1;
     Stepped::moves(deeper.goes(to).with_condition(Condition::Absent))
 }
 
 // H5, and 32.
-pub fn ret(
-    returns: &mut [u64; Sequence::STACK as usize],
-    counters: &mut [u64; Sequence::STACK as usize],
-    s: Core,
-) -> Stepped
+pub fn ret(arrays: &mut Arrays, s: Core) -> Stepped
     requires { CanReturn s }
-    ensures { (ws ts : List ℕ) → Done (return_of (state_of s returns.old counters.old ws ts)) result returns.new counters.new ws ts }
+    ensures { DoneIn (return_of (state_in s arrays.old)) result arrays.new }
 {
     let condition = s.condition;
     if !condition.acts() {
@@ -299,28 +384,28 @@ pub fn ret(
     }
     let depth = s.depth;
     if depth == 0 {
-        return Stepped::stop(Sequence::STACK_EMPTY, s);
+        return Stepped::stop_for(Fault::StackEmpty, s);
     }
     let less = depth - 1;
     let top = less as usize;
-    let to = returns[top];
+    let to = arrays.returns[top];
     let mut back = s;
-    back.counter = counters[top];
+    back.counter = arrays.counters[top];
     back.depth = less;
-    returns[top] = 0;
-    counters[top] = 0;
+    arrays.returns[top] = 0;
+    arrays.counters[top] = 0;
     Stepped::moves(back.goes(WordAddress(to)).with_condition(Condition::Absent))
 }
 
 // LOAD_CMP, and 42.
 pub fn message(messages: &[u8], s: Core) -> Stepped
     requires { Counts s }
-    ensures { (rs cs ws ts : List ℕ) → Done (message_of messages.now (state_of s rs cs ws ts)) result rs cs ws ts }
+    ensures { (arrays : Arrays) → DoneIn (message_of messages.now (state_in s arrays)) result arrays }
 {
     let used = s.used;
     let next = used as usize;
     if messages.len() <= next {
-        return Stepped::stop(Stepped::MESSAGE_AWAITED, s);
+        return Stepped::stop_for(Halt::MessageAwaited, s);
     }
     Stepped::moves(s.takes(Instruction::wide(messages[next]), used + 1))
 }

@@ -1,15 +1,16 @@
 -- A label and its two numbers are one and the same: what is first among the numbers is first among the labels.
 -- Assumes nothing.
-use Prim.Native.Nat.{ℕ, zero, suc, ◌+◌, ◌-◌, ◌*◌, ◌≤◌, ◌<◌}
+use Prim.Native.Nat.{ℕ, zero, suc, min, ◌+◌, ◌-◌, ◌*◌, ◌≤◌, ◌<◌}
 use mathlib.Core.Path.{◌≡◌, refl, sym, ap, ap₂, ◌∙◌}
 use mathlib.Core.Bool.{Bool, true, false, ◌&&◌, ◌||◌}
 use mathlib.Core.List.{List, [], ◌∷◌, ◌++◌}
 use mathlib.Core.Logic.{◌⊎◌, inl, inr, ⊎_elim}
 use native.Mathlib.Omega.{arith}
+use native.Mathlib.Decide.{dec_lt}
 use borrow.Author.Tests.{leb-true}
 use lib.Dec.{leb}
-use lib.ListN.{length, get_or, take, drop, take-append-drop, drop_of_length-le}
-use lib.Seq.{slice, slice-cons, take_all}
+use lib.ListN.{length, get_or, take, drop, take-append-drop, drop_of_length-le, length-drop}
+use lib.Seq.{drop-cons, take_all}
 use Rattle.instruction.specs.Bits.{pick}
 use Rattle.text.specs.Cut.{same_text}
 use Rattle.text.specs.Number.{between, is_digit}
@@ -41,35 +42,41 @@ pub cap_seven : (n v : ℕ) → n ≤ 7 → v < cap n → v < 72057594037927936
 cap_seven n v l h = let m : cap n ≤ 72057594037927936 = cap_grows n 7 l in omega arith
 
 -- one byte more in front of those read
-module _ (text : List ℕ) (to i value b : ℕ) (l : 0 < i) (m : i ≤ to) (n : to ≤ length text) (e : b ≡ get_or text (i - 1) 0) (k : b < 256) where
-  pub value_next : value ≡ value_of (slice i to text) → value * 256 + b ≡ value_of (slice (i - 1) to text)
+module _ (name : List ℕ) (i value : ℕ) (l : 0 < i) (m : i ≤ length name) where
+  abbrev b : ℕ
+  b = get_or name (i - 1) 0
+
+  pub value_next : value ≡ value_of (drop i name) → value * 256 + b ≡ value_of (drop (i - 1) name)
   value_next h =
       let q : suc (i - 1) ≡ i = omega arith in
-      let s : value_of (slice (i - 1) to text) ≡ get_or text (i - 1) 0 + 256 * value_of (slice (suc (i - 1)) to text) = ap value_of (slice-cons (i - 1) to text 0 (omega arith) n) in
-      let t : value_of (slice (suc (i - 1)) to text) ≡ value_of (slice i to text) = ap (λ (j : ℕ). value_of (slice j to text)) q in
+      let s : value_of (drop (i - 1) name) ≡ b + 256 * value_of (drop (suc (i - 1)) name) = ap value_of (drop-cons name (i - 1) 0 (omega arith)) in
+      let t : value_of (drop (suc (i - 1)) name) ≡ value_of (drop i name) = ap (λ (j : ℕ). value_of (drop j name)) q in
       omega arith
 
-  pub cap_next : value < cap (to - i) → value * 256 + b < cap (to - (i - 1))
-  cap_next h =
-      let q : to - (i - 1) ≡ suc (to - i) = omega arith in
-      let s : cap (to - (i - 1)) ≡ 256 * cap (to - i) = ap cap q in
+  pub cap_next : b < 256 → value < cap (length name - i) → value * 256 + b < cap (length name - (i - 1))
+  cap_next k h =
+      let q : length name - (i - 1) ≡ suc (length name - i) = omega arith in
+      let s : cap (length name - (i - 1)) ≡ 256 * cap (length name - i) = ap cap q in
       omega arith
 
-key_of_lem : ℕ → ℕ → Key
-key_of_lem a b = record { lo = a; hi = b }
+-- the two parts of a label, of which the second may be empty
+pub key_parts : (name : List ℕ) {lo hi : ℕ} → lo ≡ value_of (take (min (length name) half - 0) name) → hi ≡ value_of (take (length name - min (length name) half) (drop (min (length name) half) name))
+    → record { lo = lo; hi = hi } ≡ key_of name
+key_parts name {lo = lo} {hi = hi} e f = (λ j. record { lo = (e ∙ ap value_of front) j; hi = (f ∙ ap value_of back) j })
+  where
+    front : take (min (length name) half - 0) name ≡ take half name
+    front = by (dec_lt (length name) half)
+      where
+        by : Dec (length name < half) → take (min (length name) half - 0) name ≡ take half name
+        by (yes l) = take_all (min (length name) half - 0) name (omega arith) ∙ sym (take_all half name (omega arith))
+        by (no l) = let e : min (length name) half - 0 ≡ half = omega arith in ap (λ (k : ℕ). take k name) e
 
--- a label that one number holds, and a longer one
-module _ (name : List ℕ) (lo : ℕ) where
-  pub key_short : length name ≤ half → lo ≡ value_of (slice 0 (length name) name) → record { lo = lo; hi = 0 } ≡ key_of name
-  unfolding key_of_lem
-  key_short l e =
-      ap₂ key_of_lem
-      (e ∙ ap value_of (take_all (length name) name (omega arith) ∙ sym (take_all half name l)))
-      (sym (ap value_of (drop_of_length-le name l)))
-
-  pub key_long : (hi : ℕ) → lo ≡ value_of (slice 0 half name) → hi ≡ value_of (slice half (length name) name) → record { lo = lo; hi = hi } ≡ key_of name
-  unfolding key_of_lem
-  key_long hi e f = ap₂ key_of_lem e (f ∙ ap (λ (l : List ℕ). value_of (drop half l)) (take_all (length name) name (omega arith)))
+    back : take (length name - min (length name) half) (drop (min (length name) half) name) ≡ drop half name
+    back = take_all (length name - min (length name) half) (drop (min (length name) half) name) (omega (arith, length-drop (min (length name) half) name)) ∙ by (dec_lt (length name) half)
+      where
+        by : Dec (length name < half) → drop (min (length name) half) name ≡ drop half name
+        by (yes l) = drop_of_length-le name {i = min (length name) half} (omega arith) ∙ sym (drop_of_length-le name {i = half} (omega arith))
+        by (no l) = let e : min (length name) half ≡ half = omega arith in ap (λ (k : ℕ). drop k name) e
 
 -- ---- one-to-one
 

@@ -1,6 +1,6 @@
 -- Laws of the numbers of many labels and of the table that finds them.
 -- Assumes nothing.
-use Prim.Native.Nat.{ℕ, zero, suc, ◌-◌, ◌/◌, ◌≤◌, ◌<◌}
+use Prim.Native.Nat.{ℕ, zero, suc, ◌/◌, ◌≤◌, ◌<◌}
 use mathlib.Core.Path.{◌≡◌, refl, sym, ap, ap₂, ◌∙◌}
 use mathlib.Core.Bool.{Bool, true, false}
 use mathlib.Core.List.{List, [], ◌∷◌}
@@ -46,12 +46,10 @@ module _ (keys table : List ℕ) (k : Key) where
       ap (λ (a : ℕ). place_from left keys table k others (bits / 2) (below a bits)) e
       ∙ sym (ap (on left bits others slot (get_or table slot empty)) (ends_as slot at e h))
 
-  pub place_next : (left bits others slot at : ℕ) → 0 < left → at ≡ get_or table slot empty → ends keys k at ≡ false
-      → place_from (left - 1) keys table k others (bits / 2) (below at bits) ≡ place_from left keys table k bits others slot
-  place_next zero bits others slot at l e h = absurd (omega arith)
-  place_next (suc left) bits others slot at l e h =
-      let q : suc left - 1 ≡ left = omega arith in
-      ap (λ (m : ℕ). place_from m keys table k others (bits / 2) (below at bits)) q ∙ place_suc left bits others slot at e h
+  pub place_next : (left less bits others slot at : ℕ) → left ≡ suc less → at ≡ get_or table slot empty → ends keys k at ≡ false
+      → place_from less keys table k others (bits / 2) (below at bits) ≡ place_from left keys table k bits others slot
+  place_next left less bits others slot at l e h =
+      place_suc less bits others slot at e h ∙ ap (λ (m : ℕ). place_from m keys table k bits others slot) (sym l)
 
   pub place_spent : (left bits others slot : ℕ) → left ≤ 0 → slot ≡ place_from left keys table k bits others slot
   unfolding place_from

@@ -5,7 +5,6 @@ use Rattle.instruction.specs.Bits.{pick}
 use Rattle.label.specs.Label.{is_label}
 use Rattle.label.specs.First.{IsDouble}
 use Rattle.label.specs.declared.Key.{Key}
-use Rattle.label.specs.declared.index.Sight.{Sight}
 
 -- ---- a label's numbers
 
@@ -20,12 +19,6 @@ value_of (b ∷ bs) = b + 256 * value_of bs
 
 abbrev pub key_of : List ℕ → Key
 key_of name = record { lo = value_of (take half name); hi = value_of (drop half name) }
-
--- a part of a text that one number holds
-pub record Short (from to : ℕ) (text : List ℕ) : Type 0 where
-  pub order : from ≤ to
-  pub inside : to ≤ length text
-  pub size : to ≤ from + half
 
 -- ---- the numbers of many
 
@@ -99,6 +92,7 @@ Looked keys table = (j : ℕ) → j < count keys → seek_of keys table (key_at 
 abbrev pub sooner_of : ℕ → ℕ → ℕ → ℕ
 sooner_of double at j = pick (leb j at) double (pick (leb double j) double j)
 
-pub record Seen (keys table : List ℕ) (r : Sight) : Type 0 where
-  pub looked : r.ready ≡ true → Looked keys table
-  pub double : r.ready ≡ true → IsDouble (key_at keys) (count keys) r.double
+-- a table that is to be used, and the first label that stood before
+pub record Seen (keys table : List ℕ) (double : ℕ) : Type 0 where
+  pub looked : Looked keys table
+  pub first : IsDouble (key_at keys) (count keys) double

@@ -1,7 +1,7 @@
 // Where a label stands first among many: slots by a hash of its numbers, and below each a tree by their bits.
 // Nothing is promised of the table; that each label is found no later than it stands is looked at in the end.
-ghost use Rattle.std.specs.Prelude.{◌≡◌, ◌<◌, get_or};
-ghost use Rattle.label.specs.Key.{count, key_at, means_at, same_key, empty, slot_of, place_of, seek_of, sooner_of, Seen};
+ghost use Rattle.std.specs.Prelude.{◌≡◌, ◌<◌, get_or, IfSome};
+ghost use Rattle.label.specs.Key.{count, key_at, means_at, empty, slot_of, place_of, seek_of, sooner_of, Seen};
 
 use crate::Key;
 
@@ -38,10 +38,7 @@ fn number(x: u32) -> usize
 fn entry(table: &[u32], slot: usize) -> usize
     ensures { result ≡ get_or table.now slot empty }
 {
-    if table.len() <= slot {
-        return number(Table::EMPTY);
-    }
-    number(table[slot])
+    number(*table.get(slot).unwrap_or(&Table::EMPTY))
 }
 
 // The numbers of a label.
@@ -62,12 +59,6 @@ pub fn means_at(keys: &[u64], j: usize) -> u64
     keys[Table::NUMBERS * j + 2]
 }
 
-fn same_key(a: Key, b: Key) -> bool
-    ensures { result ≡ same_key a b }
-{
-    (a.lo == b.lo) & (a.hi == b.hi)
-}
-
 fn slot_of(k: Key) -> usize
     ensures { result ≡ slot_of k }
 {
@@ -84,21 +75,19 @@ fn place(keys: &[u64], table: &[u32], k: Key) -> usize
     let mut slot = slot_of(k);
     let mut bits = k.lo;
     let mut others = k.hi;
-    let mut left = Table::STEPS;
-    while 0 < left {
+    for _ in 0..Table::STEPS {
         let at = entry(table, slot);
         if n <= at {
             return slot;
         }
         let here = key_at(keys, at);
-        if same_key(here, k) {
+        if here == k {
             return slot;
         }
         slot = Table::FIRST + 2 * at + (bits % 2) as usize;
         let rest = bits / 2;
         bits = others;
         others = rest;
-        left -= 1;
     }
     slot
 }
@@ -114,7 +103,7 @@ pub fn seek(keys: &[u64], table: &[u32], k: Key) -> usize
         return n;
     }
     let here = key_at(keys, at);
-    if same_key(here, k) {
+    if here == k {
         return at;
     }
     n
@@ -136,20 +125,11 @@ fn put(table: &mut [u32], n: usize, slot: usize, j: usize) {
 
 fn build(keys: &[u64], table: &mut [u32]) {
     let n = keys.len() / Table::NUMBERS;
-    let mut j: usize = 0;
-    while j < n {
+    for j in 0..n {
         let k = key_at(keys, j);
         let slot = place(keys, table, k);
         put(table, n, slot, j);
-        j += 1;
     }
-}
-
-// What a look tells: whether the table is to be used, and then the first label that stood before; the number of labels where none did.
-#[derive(Clone, Copy)]
-pub struct Sight {
-    pub ready: bool,
-    pub double: usize,
 }
 
 fn sooner(double: usize, at: usize, j: usize) -> usize
@@ -164,40 +144,29 @@ fn sooner(double: usize, at: usize, j: usize) -> usize
     j
 }
 
-// Whether each label is found, no later than it stands; the first that stood before is met on the way.
-fn look(keys: &[u64], table: &[u32]) -> Sight
-    ensures { Seen keys.now table.now result }
+// The first label that stood before, their number where none did; nothing where one is found later than it stands or not at all.
+fn look(keys: &[u64], table: &[u32]) -> Option<usize>
+    ensures { IfSome result (Seen keys.now table.now) }
 {
     let n = keys.len() / Table::NUMBERS;
     let mut double = n;
-    let mut j: usize = 0;
-    while j < n {
+    for j in 0..n {
         let k = key_at(keys, j);
         let at = seek(keys, table, k);
         if j < at {
-            return Sight {
-                ready: false,
-                double: 0,
-            };
+            return None;
         }
         double = sooner(double, at, j);
-        j += 1;
     }
-    Sight {
-        ready: true,
-        double,
-    }
+    Some(double)
 }
 
-// A table for the labels, and what a look at it tells.
-pub fn prepare(keys: &[u64], table: &mut [u32]) -> Sight
-    ensures { Seen keys.now table.new result }
+// A table for the labels, and what a look at it tells; nothing where it is not to be used.
+pub fn prepare(keys: &[u64], table: &mut [u32]) -> Option<usize>
+    ensures { IfSome result (Seen keys.now table.new) }
 {
     if Table::LABELS < keys.len() / Table::NUMBERS {
-        return Sight {
-            ready: false,
-            double: 0,
-        };
+        return None;
     }
     build(keys, table);
     look(keys, table)

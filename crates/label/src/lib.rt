@@ -2,10 +2,11 @@
 // The table that finds it carries no promise: a last look at every label proves that it finds them all.
 #![tactic(auto)]
 
-ghost use Rattle.std.specs.Prelude.{◌≡◌, ◌≤◌, ◌<◌, length};
-ghost use Rattle.std.proofs.Math.Seq.{slice};
-ghost use Rattle.label.specs.Label.{label_size, is_label_byte, is_label};
-ghost use Rattle.label.specs.Key.{Short, value_of, key_of};
+ghost use Rattle.std.specs.Prelude.{◌≡◌, ◌≤◌, length};
+ghost use Rattle.std.specs.Char.{is_ascii_alphanumeric};
+ghost use Rattle.std.specs.List.{list_all};
+ghost use Rattle.label.specs.Label.{label_size, is_label};
+ghost use Rattle.label.specs.Key.{half, value_of, key_of};
 
 pub mod index;
 
@@ -18,7 +19,7 @@ impl Label {
 }
 
 // A label as two numbers.
-#[derive(Clone, Copy)]
+#[derive(Clone, Copy, PartialEq)]
 pub struct Key {
     pub lo: u64,
     pub hi: u64,
@@ -32,51 +33,30 @@ impl Key {
     pub const BYTE: u64 = 256;
 }
 
-fn is_label_byte(b: u8) -> bool
-    ensures { result ≡ is_label_byte b }
+fn are_label_bytes(name: &[u8]) -> bool
+    ensures { result ≡ list_all is_ascii_alphanumeric name.now }
 {
-    let digit = (b'0' <= b) & (b <= b'9');
-    let upper = (b'A' <= b) & (b <= b'Z');
-    let lower = (b'a' <= b) & (b <= b'z');
-    digit | (upper | lower)
+    name.iter().all(|b| b.is_ascii_alphanumeric())
 }
 
 // Whether a text is a label.
 pub fn is_label(name: &[u8]) -> bool
     ensures { result ≡ is_label name.now }
 {
-    if name.len() == 0 {
-        return false;
+    match name.len() {
+        1..=Label::SIZE => are_label_bytes(name),
+        _ => false,
     }
-    if Label::SIZE < name.len() {
-        return false;
-    }
-    let mut i: usize = 0;
-    while i < name.len() {
-        if !is_label_byte(name[i]) {
-            return false;
-        }
-        i += 1;
-    }
-    true
-}
-
-fn wide(x: u8) -> u64
-    ensures { (result ≡ x) × (result < 256) }
-{
-    x as u64
 }
 
 // At most eight bytes as one number, the first byte lowest.
-fn value(name: &[u8], from: usize, to: usize) -> u64
-    requires { Short from to name.now }
-    ensures { result ≡ value_of (slice from to name.now) }
+fn value(name: &[u8]) -> u64
+    requires { length name.now ≤ half }
+    ensures { result ≡ value_of name.now }
 {
     let mut value: u64 = 0;
-    let mut i = to;
-    while from < i {
-        i -= 1;
-        value = value * Key::BYTE + wide(name[i]);
+    for i in (0..name.len()).rev() {
+        value = value * Key::BYTE + u64::from(name[i]);
     }
     value
 }
@@ -86,12 +66,8 @@ pub fn pack(name: &[u8]) -> Key
     requires { length name.now ≤ label_size }
     ensures { result ≡ key_of name.now }
 {
-    let size = name.len();
-    if size <= Key::HALF {
-        let lo = value(name, 0, size);
-        return Key { lo, hi: 0 };
-    }
-    let lo = value(name, 0, Key::HALF);
-    let hi = value(name, Key::HALF, size);
+    let low = name.len().min(Key::HALF);
+    let lo = value(&name[..low]);
+    let hi = value(&name[low..]);
     Key { lo, hi }
 }

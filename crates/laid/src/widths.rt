@@ -13,39 +13,39 @@ use instruction::{
 fn address_fits(a: WordAddress) -> bool
     ensures { result ≡ all_fit (target ∷ []) (a.0 ∷ []) }
 {
-    a.0 < 1 << WordAddress::PLACE.width
+    WordAddress::PLACE.fits(a.0)
 }
 
 pub fn waveform_fits(f: WaveformFields) -> bool
     ensures { result ≡ body_fits (Body.Waveform f) }
 {
-    (f.op < 1 << EngineOp::PLACE.width)
-        & (f.ta < 1 << WaveformFields::TA.width)
-        & (f.count.0 < 1 << WaveformFields::COUNT.width)
-        & (f.address.0 < 1 << WaveformFields::ADDRESS.width)
+    EngineOp::PLACE.fits(f.op)
+        & WaveformFields::TA.fits(f.ta)
+        & WaveformFields::COUNT.fits(f.count.0)
+        & WaveformFields::ADDRESS.fits(f.address.0)
 }
 
 fn marker_fits(f: MarkerFields) -> bool
     ensures { result ≡ body_fits (Body.Marker f) }
 {
-    (f.op < 1 << EngineOp::PLACE.width)
-        & (f.transition < 1 << MarkerFields::TRANSITION.width)
-        & (f.state < 1 << MarkerFields::STATE.width)
-        & (f.count.0 < 1 << MarkerFields::COUNT.width)
+    EngineOp::PLACE.fits(f.op)
+        & MarkerFields::TRANSITION.fits(f.transition)
+        & MarkerFields::STATE.fits(f.state)
+        & MarkerFields::COUNT.fits(f.count.0)
 }
 
 fn comparison_fits(x: Comparison) -> bool
     ensures { result ≡ body_fits (Body.Cmp x) }
 {
-    (x.code < 1 << Comparison::CODE.width) & (x.mask < 1 << Comparison::MASK.width)
+    Comparison::CODE.fits(x.code) & Comparison::MASK.fits(x.mask)
 }
 
 fn modulator_fits(f: ModulatorFields) -> bool
     ensures { result ≡ body_fits (Body.Modulator f) }
 {
-    (f.op < 1 << ModulatorFields::OP.width)
-        & (f.nco < 1 << ModulatorFields::NCO.width)
-        & (f.payload < 1 << ModulatorFields::PAYLOAD.width)
+    ModulatorFields::OP.fits(f.op)
+        & ModulatorFields::NCO.fits(f.nco)
+        & ModulatorFields::PAYLOAD.fits(f.payload)
 }
 
 fn body_fits(body: Body) -> bool
@@ -55,7 +55,7 @@ fn body_fits(body: Body) -> bool
         Body::Waveform(f) => waveform_fits(f),
         Body::Marker(f) => marker_fits(f),
         Body::Wait => true,
-        Body::LoadRepeat(n) => n.0 < 1 << Repeats::PLACE.width,
+        Body::LoadRepeat(n) => Repeats::PLACE.fits(n.0),
         Body::Repeat(a) => address_fits(a),
         Body::Cmp(x) => comparison_fits(x),
         Body::Goto(a) => address_fits(a),
@@ -73,7 +73,7 @@ fn body_fits(body: Body) -> bool
 pub fn header_fits(engine: u64, write: u64) -> bool
     ensures { result ≡ all_fit (engine_select ∷ write_flag ∷ []) (engine ∷ write ∷ []) }
 {
-    (engine < 1 << Instruction::ENGINE.width) & (write < 1 << Instruction::WRITE.width)
+    Instruction::ENGINE.fits(engine) & Instruction::WRITE.fits(write)
 }
 
 // Nothing is asked that 23 is given for.

@@ -8,13 +8,12 @@ use mathlib.Core.Bool.{Bool, true, false, not, ◌&&◌, ◌||◌, true≢false}
 use mathlib.Core.List.{List, [], ◌∷◌}
 use borrow.Author.Tests.{lt-ltb, le-ltb, ltb-true, ltb-false, eqb-true, eqb-false, le-leb, lt-leb, leb-true, not-true}
 use lib.Dec.{ltb, eqb, leb}
-use lib.ListN.{length, get_or, drop, take, length-drop}
+use lib.ListN.{length, get_or, drop, take, length-drop, drop_of_length-le}
 use lib.Seq.{drop-cons, take_all}
 use Rattle.instruction.specs.declared.Instruction.{Instruction}
 use Rattle.instruction.specs.declared.Refusal.{Refusal}
-use Rattle.reader.specs.Reading.{reading_of}
-use Rattle.reader.specs.declared.Reading.{Reading}
-use Rattle.reader.specs.declared.Reading.TheVariants.{Accepted, Refused}
+use Rattle.reader.specs.Reading.{Reading, reading_of}
+use Rattle.std.specs.declared.result.Result.TheVariants.{Ok, Err}
 use Rattle.dispatch.specs.Engines.{engine_count, AllLe}
 use Rattle.dispatch.specs.Trace.{part}
 use Rattle.jumps.specs.State.{Fixed}
@@ -41,30 +40,25 @@ above_whole sent total = by (ltb sent (total / 4294967296)) refl (eqb sent (tota
 
 -- ---- groups
 
--- a group that is not empty is its first word and the rest
-part_next : (words : List ℕ) (i to : ℕ) → i < to → to ≤ length words → part i (to - i) words ≡ get_or words i 0 ∷ part (i + 1) (to - (i + 1)) words
-part_next words i to h l =
-    let k : to - i ≡ suc (to - (i + 1)) = omega arith in
-    ap (λ (n : ℕ). take n (drop i words)) k
-    ∙ ap (take (suc (to - (i + 1)))) (drop-cons words i 0 (omega arith))
-    ∙ ap (λ (j : ℕ). get_or words i 0 ∷ take (to - (i + 1)) (drop j words)) (sym (add-one i))
+module _ (e : Fixed) (group : List ℕ) (i : ℕ) (h : i < length group) where
+  pub held_here : can_be_held e (reading_of e.setting.rules (get_or group i 0)) ≡ true → can_all_be_held e (drop i group) ≡ can_all_be_held e (drop (i + 1) group)
+  held_here b =
+      ap (can_all_be_held e) (drop-cons group i 0 h)
+      ∙ ap (λ (x : Bool). x && can_all_be_held e (drop (suc i) group)) b
+      ∙ ap (λ (j : ℕ). can_all_be_held e (drop j group)) (sym (add-one i))
 
-module _ (e : Fixed) (words : List ℕ) (i to : ℕ) (h : i < to) (l : to ≤ length words) where
-  pub held_here : can_be_held e (reading_of e.setting.rules (get_or words i 0)) ≡ true → can_all_be_held e (part i (to - i) words) ≡ can_all_be_held e (part (i + 1) (to - (i + 1)) words)
-  held_here b = ap (can_all_be_held e) (part_next words i to h l) ∙ ap (λ (x : Bool). x && can_all_be_held e (part (i + 1) (to - (i + 1)) words)) b
+  pub not_held_here : can_be_held e (reading_of e.setting.rules (get_or group i 0)) ≡ false → can_all_be_held e (drop i group) ≡ false
+  not_held_here b = ap (can_all_be_held e) (drop-cons group i 0 h) ∙ ap (λ (x : Bool). x && can_all_be_held e (drop (suc i) group)) b
 
-  pub not_held_here : can_be_held e (reading_of e.setting.rules (get_or words i 0)) ≡ false → can_all_be_held e (part i (to - i) words) ≡ false
-  not_held_here b = ap (can_all_be_held e) (part_next words i to h l) ∙ ap (λ (x : Bool). x && can_all_be_held e (part (i + 1) (to - (i + 1)) words)) b
-
-pub none_held : (e : Fixed) (words : List ℕ) (i to : ℕ) → to ≤ i → can_all_be_held e (part i (to - i) words) ≡ true
-none_held e words i to h = let k : to - i ≡ 0 = omega arith in ap (λ (n : ℕ). can_all_be_held e (part i n words)) k
+pub none_held : (e : Fixed) (group : List ℕ) (i : ℕ) → length group ≤ i → can_all_be_held e (drop i group) ≡ true
+none_held e group i h = ap (can_all_be_held e) (drop_of_length-le group h)
 
 -- what a word reads as decides
-pub held_accepted : (e : Fixed) (q : Reading) (i : Instruction) → q ≡ Accepted i → (engine : Bool) → engine ≡ is_engine i.body → (placing : ℕ) → placing ≡ placing_of e.setting.wave.0 (length e.words) i.body
+pub held_accepted : (e : Fixed) (q : Reading) (i : Instruction) → q ≡ Ok i → (engine : Bool) → engine ≡ is_engine i.body → (placing : ℕ) → placing ≡ placing_of e.setting.wave.0 (length e.words) i.body
     → (engine && eqb i.write 0 && eqb placing 0) ≡ can_be_held e q
 held_accepted e q i h engine p placing k = ap₂ (λ (x : Bool) (y : ℕ). x && eqb i.write 0 && eqb y 0) p k ∙ ap (can_be_held e) (sym h)
 
-pub held_refused : (e : Fixed) (q : Reading) (r : Refusal) → q ≡ Refused r → false ≡ can_be_held e q
+pub held_refused : (e : Fixed) (q : Reading) (r : Refusal) → q ≡ Err r → false ≡ can_be_held e q
 held_refused e q r h = ap (can_be_held e) (sym h)
 
 -- ---- the parts

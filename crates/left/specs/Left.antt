@@ -1,9 +1,8 @@
 -- What is judged of a state that a host hands back, document 02, CR 8: "A state that no run could leave is judged by its fields".
 -- Each line is one of the fields that it lists; what it does not list is kept and used as the number it is.
 use Rattle.std.specs.Prelude.{ℕ, ◌-◌, ◌*◌, ◌^◌, Bool, true, false, not, ◌&&◌, List, [], ◌∷◌, ltb, eqb, leb, length, drop}
-use Rattle.reader.specs.Reading.{reading_of}
-use Rattle.reader.specs.declared.Reading.{Reading}
-use Rattle.reader.specs.declared.Reading.TheVariants.{Accepted, Refused}
+use Rattle.reader.specs.Reading.{Reading, reading_of}
+use Rattle.std.specs.declared.result.Result.TheVariants.{Ok, Err}
 use Rattle.sequence.specs.Bounds.{stack_depth, group_size}
 use Rattle.sequence.specs.Placing.{is_engine, placing_of}
 use Rattle.dispatch.specs.Trace.{part}
@@ -21,8 +20,8 @@ stack_fits n depth returns counters =
 
 -- "low engine words .. that pass form and 20"
 abbrev pub can_be_held : Fixed → Reading → Bool
-can_be_held e (Accepted i) = is_engine i.body && eqb i.write 0 && eqb (placing_of e.setting.wave.0 (length e.words) i.body) 0
-can_be_held e (Refused r) = false
+can_be_held e (Ok i) = is_engine i.body && eqb i.write 0 && eqb (placing_of e.setting.wave.0 (length e.words) i.body) 0
+can_be_held e (Err r) = false
 
 -- each of these words is one
 abbrev pub can_all_be_held : Fixed → List ℕ → Bool

@@ -5,13 +5,13 @@
 ghost use Rattle.std.specs.Prelude.{◌≡◌, List, ℕ, ◌-◌, ◌*◌, ◌^◌, ◌≤◌, ◌<◌, ltb, length};
 ghost use Rattle.reader.specs.Reading.{reading_of};
 ghost use Rattle.sequence.specs.Bounds.{stack_depth};
-ghost use Rattle.dispatch.specs.Trace.{part};
 ghost use Rattle.jumps.specs.State.{Fixed, fixed_by};
 ghost use Rattle.machine.specs.Step.{any_above};
 ghost use Rattle.left.specs.Left.{stack_fits, can_be_held, can_all_be_held, group_fits, counts_fit, core_fits, could_be_left};
 
 use jumps::{Core, Setting, State};
-use reader::{Reading, coarse_of, instruction_in};
+use machine::any_above;
+use reader::{coarse_of, instruction_in, judged_by};
 use sequence::Sequence;
 
 // What a dispatched word adds to a total at the most.
@@ -20,19 +20,6 @@ struct Most;
 
 impl Most {
     const QUADS: u64 = 4294967296;
-}
-
-fn any_above(bound: u64, numbers: &[u64]) -> bool
-    ensures { result ≡ any_above bound numbers.now }
-{
-    let mut i: usize = 0;
-    while i < numbers.len() {
-        if bound < numbers[i] {
-            return true;
-        }
-        i += 1;
-    }
-    false
 }
 
 fn total_above(sent: u64, total: u64) -> bool
@@ -45,14 +32,7 @@ fn total_above(sent: u64, total: u64) -> bool
 fn any_total_above(sent: u64, totals: &[u64]) -> bool
     ensures { result ≡ any_above (sent * 2 ^ 32) totals.now }
 {
-    let mut i: usize = 0;
-    while i < totals.len() {
-        if total_above(sent, totals[i]) {
-            return true;
-        }
-        i += 1;
-    }
-    false
+    totals.iter().any(|total| total_above(sent, *total))
 }
 
 fn stack_fits(n: u64, s: State) -> bool
@@ -86,30 +66,26 @@ fn can_be_held(word: u64, n: u64, setting: Setting) -> bool
     ensures { (words messages : List ℕ) (room : ℕ) → length words ≡ n
         → result ≡ can_be_held (fixed_by words messages room setting) (reading_of setting.rules word) }
 {
-    let reading = Reading::of(word, coarse_of(word, setting.rules), instruction_in(word));
-    match reading {
-        Reading::Accepted(i) => {
+    match judged_by(word, coarse_of(word, setting.rules), instruction_in(word)) {
+        Ok(i) => {
             let body = i.body;
             Sequence::is_engine(body)
                 & (i.write == 0)
-                & (Sequence::placing(setting.wave, n, body) == 0)
+                & Sequence::placing(setting.wave, n, body).is_ok()
         }
-        Reading::Refused(_) => false,
+        Err(_) => false,
     }
 }
 
-fn can_all_be_held(words: &[u64], from: usize, to: usize, setting: Setting) -> bool
-    requires { (from ≤ to) × (to ≤ length words.now) }
-    ensures { (messages : List ℕ) (room : ℕ)
-        → result ≡ can_all_be_held (fixed_by words.now messages room setting) (part from (to - from) words.now) }
+// The words of a group, of a sequence of n words.
+fn can_all_be_held(group: &[u64], n: u64, setting: Setting) -> bool
+    ensures { (words messages : List ℕ) (room : ℕ) → length words ≡ n
+        → result ≡ can_all_be_held (fixed_by words messages room setting) group.now }
 {
-    let n = words.len() as u64;
-    let mut i = from;
-    while i < to {
-        if !can_be_held(words[i], n, setting) {
+    for word in group {
+        if !can_be_held(*word, n, setting) {
             return false;
         }
-        i += 1;
     }
     true
 }
@@ -126,7 +102,8 @@ fn group_fits(words: &[u64], s: Core, setting: Setting) -> bool
     if (s.steps < held) | (address < held) {
         return false;
     }
-    can_all_be_held(words, (address - held) as usize, address as usize, setting)
+    let group = &words[(address - held) as usize..address as usize];
+    can_all_be_held(group, words.len() as u64, setting)
 }
 
 fn core_fits(c: Core, n: u64, messages: u64, room: u64, budget: u64) -> bool

@@ -2,6 +2,10 @@
 // What a line asks for is heard, done on the run that pauses, and told with what it changed.
 #![tactic(auto)]
 
-pub mod course;
+mod course;
 mod heard;
+mod messages;
 mod wish;
+
+pub use course::Lesson;
+pub use messages::Messages;

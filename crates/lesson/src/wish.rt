@@ -1,9 +1,7 @@
 // What a line asks for in a lesson: a word, and a number behind it where it takes one.
 // Blanks around them do not matter.
-ghost use Rattle.std.specs.Prelude.{◌≤◌, length};
-
-use text::same;
-use typed::{Amount, number};
+use std::fmt;
+use typed::number;
 
 #[derive(Clone, Copy)]
 pub enum Wish {
@@ -15,125 +13,83 @@ pub enum Wish {
     Back,
     Help,
     Quit,
-    // None of these.
-    Unknown,
-    // Which number is not one: of triggers, or a message.
-    BadTriggers,
-    BadMessage,
 }
 
-const MOST_MESSAGE: u32 = 255;
-
-fn is_blank(b: u8) -> bool {
-    (b == b' ') | (b == b'\t') | (b == b'\r')
+// What cannot be heard in a line: a word that is none, or which number is not one.
+#[derive(Clone, Copy)]
+pub enum Unclear {
+    Word,
+    Triggers,
+    Message,
 }
 
-// Where the blanks at the end of a line begin.
-fn end_of(line: &[u8]) -> usize
-    ensures { result ≤ length line.now }
-{
-    let mut n = line.len();
-    while 0 < n && is_blank(line[n - 1]) {
-        n -= 1;
-    }
-    n
-}
-
-// Where the blanks at the start of a line end.
-fn start_of(line: &[u8]) -> usize
-    ensures { result ≤ length line.now }
-{
-    let mut i: usize = 0;
-    while i < line.len() && is_blank(line[i]) {
-        i += 1;
-    }
-    i
-}
-
-// Where the first word of a line ends.
-fn first_of(line: &[u8]) -> usize
-    ensures { result ≤ length line.now }
-{
-    let mut i: usize = 0;
-    while i < line.len() && !is_blank(line[i]) {
-        i += 1;
-    }
-    i
-}
-
-fn alone(word: &[u8]) -> Wish {
-    if same(word, b"go") {
-        return Wish::Go;
-    }
-    if same(word, b"trigger") {
-        return Wish::Triggers(1);
-    }
-    if same(word, b"state") {
-        return Wish::State;
-    }
-    if same(word, b"back") {
-        return Wish::Back;
-    }
-    if same(word, b"help") {
-        return Wish::Help;
-    }
-    if same(word, b"quit") {
-        return Wish::Quit;
-    }
-    match number(word, u32::MAX) {
-        Amount::Is(n) => Wish::Steps(n),
-        Amount::NoNumber => Wish::Unknown,
-        Amount::TooLarge => Wish::Unknown,
+impl fmt::Display for Unclear {
+    fn fmt<W: fmt::Write>(&self, f: &mut fmt::Formatter<W>) -> fmt::Result {
+        f.write_str(match self {
+            Unclear::Word => "that is none of the words here; help tells them",
+            Unclear::Triggers =>
+                "how many triggers? A number behind it, as trigger 3, or none for one",
+            Unclear::Message => "which message? A number from 0 to 255 behind it, as message 7",
+        })
     }
 }
 
-fn triggers_in(word: &[u8]) -> Wish {
-    match number(word, u32::MAX) {
-        Amount::Is(n) => Wish::Triggers((n % 0x1_0000_0000) as u32),
-        Amount::NoNumber => Wish::BadTriggers,
-        Amount::TooLarge => Wish::BadTriggers,
+fn is_blank(byte: u8) -> bool {
+    matches!(byte, b' ' | b'\t' | b'\r')
+}
+
+// The number that a word says, if it does.
+fn number_in(word: &[u8]) -> Option<u64> {
+    number(word, u32::MAX).ok()
+}
+
+fn triggers_in(word: &[u8]) -> Result<Wish, Unclear> {
+    match number_in(word).map(u32::try_from) {
+        Some(Ok(n)) => Ok(Wish::Triggers(n)),
+        _ => Err(Unclear::Triggers),
     }
 }
 
-fn message_in(word: &[u8]) -> Wish {
-    match number(word, MOST_MESSAGE) {
-        Amount::Is(n) => Wish::Message((n % 256) as u8),
-        Amount::NoNumber => Wish::BadMessage,
-        Amount::TooLarge => Wish::BadMessage,
+fn message_in(word: &[u8]) -> Result<Wish, Unclear> {
+    match number_in(word).map(u8::try_from) {
+        Some(Ok(message)) => Ok(Wish::Message(message)),
+        _ => Err(Unclear::Message),
+    }
+}
+
+fn alone(word: &[u8]) -> Result<Wish, Unclear> {
+    match word {
+        b"go" => Ok(Wish::Go),
+        b"trigger" => Ok(Wish::Triggers(1)),
+        b"message" => Err(Unclear::Message),
+        b"state" => Ok(Wish::State),
+        b"back" => Ok(Wish::Back),
+        b"help" => Ok(Wish::Help),
+        b"quit" => Ok(Wish::Quit),
+        _ => number_in(word).map(Wish::Steps).ok_or(Unclear::Word),
     }
 }
 
 // A word with another behind it.
-fn two(word: &[u8], value: &[u8]) -> Wish {
-    if same(word, b"trigger") {
-        return triggers_in(value);
+fn two(word: &[u8], value: &[u8]) -> Result<Wish, Unclear> {
+    match word {
+        b"trigger" => triggers_in(value),
+        b"message" => message_in(value),
+        _ => Err(Unclear::Word),
     }
-    if same(word, b"message") {
-        return message_in(value);
-    }
-    Wish::Unknown
 }
 
-// A line that has no blanks around it.
-fn spoken(line: &[u8]) -> Wish {
-    if line.len() == 0 {
-        return Wish::Steps(1);
+pub fn wish_in(line: &[u8]) -> Result<Wish, Unclear> {
+    let mut words = line
+        .split(|byte| is_blank(*byte))
+        .filter(|word| !word.is_empty());
+    let Some(word) = words.next() else {
+        return Ok(Wish::Steps(1));
+    };
+    match (words.next(), words.next()) {
+        (None, _) => alone(word),
+        (Some(value), None) => two(word, value),
+        // More words are no number.
+        _ => two(word, b""),
     }
-    if same(line, b"message") {
-        return Wish::BadMessage;
-    }
-    let n = first_of(line);
-    if line.len() <= n {
-        return alone(line);
-    }
-    let rest = &line[n..];
-    let k = start_of(rest);
-    two(&line[..n], &rest[k..])
-}
-
-pub fn wish_in(line: &[u8]) -> Wish {
-    let start = start_of(line);
-    let rest = &line[start..];
-    let n = end_of(rest);
-    spoken(&rest[..n])
 }

@@ -21,8 +21,7 @@ use Rattle.instruction.specs.declared.Rules.{Rules}
 use Rattle.instruction.specs.declared.Instruction.{Instruction}
 use Rattle.instruction.specs.declared.Body.{Body}
 use Rattle.instruction.specs.declared.Body.TheVariants.{Waveform, Marker, Wait, LoadRepeat, Repeat, Cmp, Goto, Call, Return, Sync, Modulator, LoadCmp, Prefetch, Noop}
-use Rattle.reader.specs.Reading.{form_in, highest_stray, refused_with, reading_of}
-use Rattle.reader.specs.declared.Reading.{Reading}
+use Rattle.reader.specs.Reading.{Reading, form_in, highest_stray, refused_with, reading_of}
 use Rattle.reader.proofs.Laws.{reads_noop, reads, refuses}
 use Rattle.reader.proofs.Below.{both, none_below}
 use Rattle.reader.proofs.Masks.{code_small}

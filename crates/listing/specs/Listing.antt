@@ -10,9 +10,8 @@ use Rattle.instruction.specs.declared.Instruction.{Instruction}
 use Rattle.instruction.specs.declared.Body.{Body}
 use Rattle.instruction.specs.declared.Body.TheVariants.{Wait, Sync}
 use Rattle.instruction.specs.Word.{word_bytes, byte_span}
-use Rattle.reader.specs.Reading.{reading_of}
-use Rattle.reader.specs.declared.Reading.{Reading}
-use Rattle.reader.specs.declared.Reading.TheVariants.{Accepted, Refused}
+use Rattle.reader.specs.Reading.{Reading, reading_of}
+use Rattle.std.specs.declared.result.Result.TheVariants.{Ok, Err}
 use Rattle.names.specs.Names.{name_of}
 use Rattle.text.specs.Line.{Entry, name, number, Line, line_text, text_of}
 
@@ -50,8 +49,8 @@ bad_numbers r = pick (tells_bit r.number) (11 ∷ r.number ∷ r.bit ∷ []) (r.
 
 -- "A word that fails form prints address, `BAD`, number."
 abbrev pub entries_in : Reading → List Entry
-entries_in (Accepted i) = entries_of i
-entries_in (Refused r) = name "BAD" ∷ map number (bad_numbers r)
+entries_in (Ok i) = entries_of i
+entries_in (Err r) = name "BAD" ∷ map number (bad_numbers r)
 
 abbrev pub line_of : Rules → ℕ → ℕ → Line
 line_of rules a word = record { first = number a; rest = entries_in (reading_of rules word) }

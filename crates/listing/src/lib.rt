@@ -9,12 +9,11 @@ ghost use Rattle.text.specs.Line.{name, number, rest_text, line_text, text_of};
 ghost use Rattle.instruction.specs.Word.{word_bytes};
 ghost use Rattle.listing.specs.Listing.{word_at, shown_of, entries_of, bad_numbers, entries_in, lines_from, head_of, listing_of, heard_size, heard_of, page_size, Listed};
 
+use buffer::lay;
 use instruction::{Body, Instruction, Refusal, Rules};
 use names::put_name;
-use page::{
-    put_end, put_four, put_number, put_one, put_text, put_three, put_two, put_value, put_word,
-};
-use reader::{Reading, coarse_of, instruction_in};
+use page::{put_end, put_number, put_numbers, put_value, put_word};
+use reader::{coarse_of, instruction_in, judged_by};
 
 #[derive(Clone, Copy)]
 pub struct Listing;
@@ -57,19 +56,19 @@ fn put_fields(page: &mut [u8], at: usize, body: Body) -> usize
     ensures { Put (rest_text (map number (shown_of body))) page.old at page.new result }
 {
     match body {
-        Body::Waveform(f) => put_four(page, at, f.op, f.ta, f.count.0, f.address.0),
-        Body::Marker(f) => put_four(page, at, f.op, f.transition, f.state, f.count.0),
+        Body::Waveform(f) => put_numbers(page, at, &[f.op, f.ta, f.count.0, f.address.0]),
+        Body::Marker(f) => put_numbers(page, at, &[f.op, f.transition, f.state, f.count.0]),
         Body::Wait => put_end(page, at),
-        Body::LoadRepeat(n) => put_one(page, at, n.0),
-        Body::Repeat(a) => put_one(page, at, a.0),
-        Body::Cmp(x) => put_two(page, at, x.code, x.mask),
-        Body::Goto(a) => put_one(page, at, a.0),
-        Body::Call(a) => put_one(page, at, a.0),
+        Body::LoadRepeat(n) => put_numbers(page, at, &[n.0]),
+        Body::Repeat(a) => put_numbers(page, at, &[a.0]),
+        Body::Cmp(x) => put_numbers(page, at, &[x.code, x.mask]),
+        Body::Goto(a) => put_numbers(page, at, &[a.0]),
+        Body::Call(a) => put_numbers(page, at, &[a.0]),
         Body::Return(_) => put_end(page, at),
         Body::Sync => put_end(page, at),
-        Body::Modulator(f) => put_three(page, at, f.op, f.nco, f.payload),
+        Body::Modulator(f) => put_numbers(page, at, &[f.op, f.nco, f.payload]),
         Body::LoadCmp(_) => put_end(page, at),
-        Body::Prefetch(a) => put_one(page, at, a.0),
+        Body::Prefetch(a) => put_numbers(page, at, &[a.0]),
         Body::Noop => put_end(page, at),
     }
 }
@@ -95,9 +94,9 @@ fn put_refusal(page: &mut [u8], at: usize, refusal: Refusal) -> usize
     ensures { Put (rest_text (map number (bad_numbers refusal))) page.old at page.new result }
 {
     if refusal.tells_bit() {
-        return put_three(page, at, Listing::UNNAMED, refusal.number, refusal.bit);
+        return put_numbers(page, at, &[Listing::UNNAMED, refusal.number, refusal.bit]);
     }
-    put_one(page, at, refusal.number)
+    put_numbers(page, at, &[refusal.number])
 }
 
 // What follows the address of a word that fails form.
@@ -109,13 +108,13 @@ fn put_bad(page: &mut [u8], at: usize, refusal: Refusal) -> usize
     put_refusal(page, named, refusal)
 }
 
-fn put_reading(page: &mut [u8], at: usize, reading: Reading) -> usize
+fn put_reading(page: &mut [u8], at: usize, reading: Result<Instruction, Refusal>) -> usize
     requires { Fits (rest_text (entries_in reading)) page.old at }
     ensures { Put (rest_text (entries_in reading)) page.old at page.new result }
 {
     match reading {
-        Reading::Accepted(i) => put_instruction(page, at, i),
-        Reading::Refused(r) => put_bad(page, at, r),
+        Ok(i) => put_instruction(page, at, i),
+        Err(r) => put_bad(page, at, r),
     }
 }
 
@@ -124,7 +123,7 @@ fn put_line(page: &mut [u8], at: usize, address: u64, word: u64, rules: Rules) -
     requires { Fits (line_text (number address) (entries_in (reading_of rules word))) page.old at }
     ensures { Put (line_text (number address) (entries_in (reading_of rules word))) page.old at page.new result }
 {
-    let reading = Reading::of(word, coarse_of(word, rules), instruction_in(word));
+    let reading = judged_by(word, coarse_of(word, rules), instruction_in(word));
     let told = put_number(page, at, address);
     put_reading(page, told, reading)
 }
@@ -134,8 +133,8 @@ fn put_pair(page: &mut [u8], text: &[u8], n: u64) -> usize
     requires { Fits (text.now ++ rest_text (number n ∷ [])) page.old 0 }
     ensures { Put (text.now ++ rest_text (number n ∷ [])) page.old 0 page.new result }
 {
-    let end = put_text(page, 0, text);
-    put_one(page, end, n)
+    let end = lay(page, 0, text);
+    put_numbers(page, end, &[n])
 }
 
 // The header line of an edition, from the start of a page.
@@ -153,10 +152,8 @@ fn word_at(bytes: &[u8], a: usize) -> u64
 {
     let from = a * Listing::WORD_BYTES;
     let mut word: u64 = 0;
-    let mut k: usize = 0;
-    while k < Listing::WORD_BYTES {
+    for k in 0..Listing::WORD_BYTES {
         word = word * Instruction::BYTE_SPAN + Instruction::wide(bytes[from + k]);
-        k += 1;
     }
     word
 }
@@ -167,10 +164,8 @@ fn put_lines(page: &mut [u8], at: usize, bytes: &[u8], n: usize, rules: Rules) -
     ensures { Put (text_of (lines_from rules bytes.now 0 n)) page.old at page.new result }
 {
     let mut end = at;
-    let mut a: usize = 0;
-    while a < n {
+    for a in 0..n {
         end = put_line(page, end, a as u64, word_at(bytes, a), rules);
-        a += 1;
     }
     end
 }
@@ -196,11 +191,7 @@ fn hand_over(page: &[u8], n: usize, out: &mut [u8])
     requires { (n ≤ length page.now) × (n ≤ length out.old) }
     ensures { out.new ≡ take n page.now ++ drop n out.old }
 {
-    let mut i: usize = 0;
-    while i < n {
-        out[i] = page[i];
-        i += 1;
-    }
+    out[..n].copy_from_slice(&page[..n]);
 }
 
 // The length of the listing, which is written where it fits.

@@ -20,6 +20,7 @@ use Rattle.buffer.specs.Put.{put}
 use Rattle.text.specs.Cut.{tab, cut, Row, place_of, fields_after}
 use Rattle.text.specs.Number.{value, is_number, field_at, counted_at}
 use Rattle.text.specs.declared.Counted.{Counted}
+use Rattle.std.specs.Prelude.{Some, None}
 use Rattle.text.proofs.Below.{all_below_lem}
 use Rattle.text.proofs.Cuts.{found_order, found_inside}
 use Rattle.text.proofs.Back.{number_said, number_not}
@@ -109,19 +110,19 @@ refused_shape a fs before after {r = r} {n = n} e f h =
       values = λ z. absurd (h (sym (ap (λ (s : Shape). s.number) e) ∙ z));
     }
 
-module _ (line : List ℕ) (a : ℕ) (before : List ℕ) {r : Counted} (n : r ≡ counted_at 0 line) where
+module _ (line : List ℕ) (a : ℕ) (before : List ℕ) where
   abbrev address : List ℕ
   address = field_at 0 line
 
   no_line : {fs : List (List ℕ)} → cut tab line ≡ fs → 61 ≡ shape_number a true fs → {s : Shape} → s ≡ record { number = 61; row = 0; from = 0 } → Shaped a (cut tab line) before before s
   no_line e f g = refused_shape a (cut tab line) before before g (f ∙ ap (shape_number a true) (sym e)) (λ z. omega arith)
 
-  pub line_not : r.plain ≡ false → {s : Shape} → s ≡ record { number = 61; row = 0; from = 0 } → Shaped a (cut tab line) before before s
-  line_not p = no_line (first_field line) (fields_61 a address (fields_after (place_of tab 0 line) line) (number_not tab 0 line n p))
+  pub line_not : None ≡ counted_at 0 line → {s : Shape} → s ≡ record { number = 61; row = 0; from = 0 } → Shaped a (cut tab line) before before s
+  line_not n = no_line (first_field line) (fields_61 a address (fields_after (place_of tab 0 line) line) (number_not tab 0 line n))
 
-  module _ (p : r.plain ≡ true) where
+  module _ {r : Counted} (n : Some r ≡ counted_at 0 line) where
     s : (is_number address ≡ true) × (r.value ≡ value address) × (r.end ≡ place_of tab 0 line)
-    s = number_said tab 0 line n p
+    s = number_said tab 0 line n
 
     start : cut tab line ≡ address ∷ fields_after r.end line
     start = first_field line ∙ ap (λ (i : ℕ). address ∷ fields_after i line) (sym s.2)

@@ -10,6 +10,7 @@ use borrow.Author.Tests.{eq-eqb, ne_eqb, le-leb, lt-leb, lt-ltb, ltb-true}
 use lib.Dec.{leb}
 use lib.ListN.{length, set, take, drop, length-append}
 use lib.Seq.{take_all}
+use Rattle.std.specs.Prelude.{Some, None}
 use Rattle.instruction.specs.Bits.{pick}
 use Rattle.instruction.specs.declared.Rules.{Rules}
 use Rattle.instruction.specs.Form.{filled}
@@ -44,31 +45,31 @@ module _ (edition : ℕ) (text before : List ℕ) {page : List ℕ} {r : ℕ} (p
       ∙ ap (same_text (take r text)) (sym on_page)
       ∙ e
 
-  pub header_short : length text < r → 0 ≡ pick (is_edition edition text) (length (head_of edition)) 0
+  pub header_short : length text < r → None ≡ pick (is_edition edition text) (Some (length (head_of edition))) None
   header_short h =
-      sym (ap (λ (t : Bool). pick t (length (head_of edition)) 0)
+      sym (ap (λ (t : Bool). pick t (Some (length (head_of edition))) None)
       (same_sizes (take (length (head_of edition)) text) (head_of edition) (λ e. omega (arith, h, size, e, ap length (take_all (length (head_of edition)) text (omega (arith, h, size)))))))
 
-  pub header_here : same_text (take r text) (take r page) ≡ true → r ≡ pick (is_edition edition text) (length (head_of edition)) 0
-  header_here e = size ∙ sym (ap (λ (t : Bool). pick t (length (head_of edition)) 0) (judged true e))
+  pub header_here : same_text (take r text) (take r page) ≡ true → Some r ≡ pick (is_edition edition text) (Some (length (head_of edition))) None
+  header_here e = ap (λ (k : ℕ). Some k) size ∙ sym (ap (λ (t : Bool). pick t (Some (length (head_of edition))) None) (judged true e))
 
-  pub header_not : same_text (take r text) (take r page) ≡ false → 0 ≡ pick (is_edition edition text) (length (head_of edition)) 0
-  header_not e = sym (ap (λ (t : Bool). pick t (length (head_of edition)) 0) (judged false e))
+  pub header_not : same_text (take r text) (take r page) ≡ false → None ≡ pick (is_edition edition text) (Some (length (head_of edition))) None
+  header_not e = sym (ap (λ (t : Bool). pick t (Some (length (head_of edition))) None) (judged false e))
 
 -- a text of an edition, by where its lines begin
-module _ (edition : ℕ) (text : List ℕ) (small : edition < 10) {from : ℕ} (e : from ≡ pick (is_edition edition text) (length (head_of edition)) 0) where
-  pub edition_is : (from ≡ 0 → ⊥) → (is_edition edition text ≡ true) × (from ≡ length (head_of edition))
-  edition_is h = by (is_edition edition text) refl e
+module _ (edition : ℕ) (text : List ℕ) where
+  pub edition_is : {from : ℕ} → Some from ≡ pick (is_edition edition text) (Some (length (head_of edition))) None → (is_edition edition text ≡ true) × (from ≡ length (head_of edition))
+  edition_is {from = from} e = by (is_edition edition text) refl e
     where
-      by : (t : Bool) → is_edition edition text ≡ t → from ≡ pick t (length (head_of edition)) 0 → (is_edition edition text ≡ true) × (from ≡ length (head_of edition))
-      by true f g = (f, g)
-      by false f g = absurd (h g)
+      by : (t : Bool) → is_edition edition text ≡ t → Some from ≡ pick t (Some (length (head_of edition))) None → (is_edition edition text ≡ true) × (from ≡ length (head_of edition))
+      by true f g = (f, cc)
+      by false f g = cc
 
-  pub edition_not : from ≡ 0 → is_edition edition text ≡ false
-  edition_not h = by (is_edition edition text) refl e
+  pub edition_not : None ≡ pick (is_edition edition text) (Some (length (head_of edition))) None → is_edition edition text ≡ false
+  edition_not e = by (is_edition edition text) refl e
     where
-      by : (t : Bool) → is_edition edition text ≡ t → from ≡ pick t (length (head_of edition)) 0 → is_edition edition text ≡ false
-      by true f g = absurd (omega (arith, h, g, header_size edition small))
+      by : (t : Bool) → is_edition edition text ≡ t → None ≡ pick t (Some (length (head_of edition))) None → is_edition edition text ≡ false
+      by true f g = cc
       by false f g = f
 
 -- ---- the number of a line
@@ -261,23 +262,23 @@ module _ (rules : Rules) (text : List ℕ) (from : ℕ) (before : List ℕ) wher
 
 -- ---- a text
 
-module _ (rules : Rules) (text before : List ℕ) {from : ℕ} (e : from ≡ pick (is_headed text) (length header_text) 0) where
-  headed : (from ≡ 0 → ⊥) → (is_headed text ≡ true) × (from ≡ length header_text)
-  headed = edition_is 1 text (omega arith) e
-
-  pub not_headed : from ≡ 0 → ReadsBack rules text before before (refused_at 60 1)
+module _ (rules : Rules) (text before : List ℕ) where
+  pub not_headed : None ≡ pick (is_headed text) (Some (length header_text)) None → ReadsBack rules text before before (refused_at 60 1)
   unfolding read_back
-  not_headed h = record { answer = sym (ap (λ (t : Bool). pick t (told_of rules (length before) 0 (body_rows text)) (refused_at 60 1)) (edition_not 1 text (omega arith) e h)); words = refl }
+  not_headed e = record { answer = sym (ap (λ (t : Bool). pick t (told_of rules (length before) 0 (body_rows text)) (refused_at 60 1)) (edition_not 1 text e)); words = refl }
 
-  module _ (h : from ≡ 0 → ⊥) {told : ReadBack} (t : told ≡ told_of rules (length before) 0 (rows_in (drop from text))) where
+  module _ {from : ℕ} (e : Some from ≡ pick (is_headed text) (Some (length header_text)) None) {told : ReadBack} (t : told ≡ told_of rules (length before) 0 (rows_in (drop from text))) where
+    headed : (is_headed text ≡ true) × (from ≡ length header_text)
+    headed = edition_is 1 text e
+
     rest : rows_in (drop from text) ≡ body_rows text
-    rest = ap (λ (n : ℕ). rows_in (drop n text)) (headed h).1
+    rest = ap (λ (n : ℕ). rows_in (drop n text)) headed.1
 
     answer : told ≡ read_back rules (length before) text
     unfolding read_back
     answer =
         t ∙ ap (told_of rules (length before) 0) rest
-        ∙ sym (ap (λ (s : Bool). pick s (told_of rules (length before) 0 (body_rows text)) (refused_at 60 1)) (headed h).0)
+        ∙ sym (ap (λ (s : Bool). pick s (told_of rules (length before) 0 (body_rows text)) (refused_at 60 1)) headed.0)
 
     pub reads_refused : (told.number ≡ 0 → ⊥) → ReadsBack rules text before before told
     reads_refused n = record { answer = answer; words = sym (ap (λ (s : Bool). pick s (words_in rules text ++ drop (length (words_in rules text)) before) before) (ne_eqb told.number 0 n)) }

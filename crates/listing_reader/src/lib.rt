@@ -2,7 +2,7 @@
 // Every line is judged before the first word is written, so that the buffer has all words or is as it was.
 #![tactic(auto)]
 
-ghost use Rattle.std.specs.Prelude.{◌≡◌, map, ◌<◌, length, drop};
+ghost use Rattle.std.specs.Prelude.{◌≡◌, map, ◌<◌, length, drop, Some, None};
 ghost use Rattle.instruction.specs.Bits.{pick};
 ghost use Rattle.buffer.specs.Put.{put};
 ghost use Rattle.text.specs.Cut.{line_feed, place_of, row_at, rows_in};
@@ -42,20 +42,20 @@ impl ReadBack {
     pub const FIELDS: usize = 6;
 }
 
-// Where the lines of an edition begin: behind its header, or 0 where the text does not begin with it.
-pub fn header_end(text: &[u8], edition: u64) -> usize
+// Where the lines of an edition begin: behind its header; nowhere where the text does not begin with it.
+pub fn header_end(text: &[u8], edition: u64) -> Option<usize>
     requires { edition < 10 }
-    ensures { result ≡ pick (is_edition edition text.now) (length (head_of edition)) 0 }
+    ensures { result ≡ pick (is_edition edition text.now) (Some (length (head_of edition))) None }
 {
     let mut page = [0u8; Listing::HEADER];
     let n = put_header(&mut page, edition);
     if text.len() < n {
-        return 0;
+        return None;
     }
     if same(&text[..n], &page[..n]) {
-        return n;
+        return Some(n);
     }
-    0
+    None
 }
 
 // What is wrong with the line from a place to its end, if anything.
@@ -84,6 +84,7 @@ fn judge(text: &[u8], from: usize, room: usize, rules: Rules) -> ReadBack
     let size = text.len();
     let mut at = from;
     let mut a: usize = 0;
+    // No index is counted: where the next line stands is found on the way.
     while at < size {
         let end = find(text, at, b'\n');
         let next = end + 1;
@@ -113,6 +114,7 @@ fn fill(text: &[u8], from: usize, words: &mut [u64], rules: Rules)
 {
     let mut at = from;
     let mut a: usize = 0;
+    // No index is counted: where the next line stands is found on the way.
     while at < text.len() {
         let end = find(text, at, b'\n');
         let read = read_line(&text[at..end], a as u64, rules);
@@ -126,14 +128,13 @@ fn fill(text: &[u8], from: usize, words: &mut [u64], rules: Rules)
 pub fn read_listing(text: &[u8], rules: Rules, words: &mut [u64]) -> ReadBack
     ensures { ReadsBack rules text.now words.old words.new result }
 {
-    let from = header_end(text, Listing::EDITION);
-    if from == 0 {
+    let Some(from) = header_end(text, Listing::EDITION) else {
         return ReadBack {
             number: ReadBack::NO_HEADER,
             line: 1,
             count: 0,
         };
-    }
+    };
     let told = judge(text, from, words.len(), rules);
     if told.number == 0 {
         fill(text, from, words, rules);

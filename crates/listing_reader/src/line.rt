@@ -10,7 +10,7 @@ use crate::ReadBack;
 use fields::read_numbers;
 use instruction::{Body, Instruction, Rules};
 use laid::fields::body_of;
-use names::{Names, named};
+use names::named;
 use text::{find, number_from};
 use writer::{Written, write};
 
@@ -61,7 +61,7 @@ fn known_shape(line: &[u8], end: usize, row: u64, address: u64, a: u64, values: 
     requires { (end ≤ length line.now) × (row < name_count) × (6 ≤ length values.old) }
     ensures { KnownShape row address a (fields_after end line.now) values.old values.new result }
 {
-    if !read_numbers(line, end, field_count(row), values) {
+    if !read_numbers(line, end, &mut values[..field_count(row)]) {
         return ReadBack::NO_LINE;
     }
     if address != a {
@@ -85,22 +85,20 @@ pub fn line_shape(line: &[u8], a: u64, values: &mut [u64]) -> Shape
     requires { 6 ≤ length values.old }
     ensures { Shaped a (cut tab line.now) values.old values.new result }
 {
-    let address = number_from(line, 0);
-    if !address.plain {
+    let Some(address) = number_from(line, 0) else {
         return Shape::refused(ReadBack::NO_LINE);
-    }
+    };
     if line.len() <= address.end {
         return Shape::refused(ReadBack::NO_LINE);
     }
     let from = address.end + 1;
     let end = find(line, from, b'\t');
-    let row = named(&line[from..end]);
-    if row < Names::COUNT {
-        let number = known_shape(line, end, row, address.value, a, values);
-        return Shape { number, row, from };
-    }
-    let number = unknown_shape(address.value, a);
-    Shape::refused(number)
+    let Some(row) = named(&line[from..end]) else {
+        let number = unknown_shape(address.value, a);
+        return Shape::refused(number);
+    };
+    let number = known_shape(line, end, row, address.value, a, values);
+    Shape { number, row, from }
 }
 
 // The line of the word at address a.

@@ -4,11 +4,13 @@
 
 ghost use Rattle.std.specs.Prelude.{◌≡◌, ◌+◌, ◌≤◌, ◌<◌, length};
 ghost use Rattle.std.specs.Int.Bits.{bit_or};
+ghost use Rattle.instruction.specs.Form.{told};
+ghost use Rattle.sequence.specs.Numbers.{fault_number};
 ghost use Rattle.flow.specs.Walk.{deepest};
 ghost use Rattle.look.specs.Closed.{fault_in, MarksFit, Tells, HoldsAt, back_in, ClosedAt, CleanAt};
 
 use flow::{Mark, Move, Moves};
-use sequence::Sequence;
+use sequence::Fault;
 
 // Whether bits are set at an address, where it is below n.
 fn holds(n: usize, marks: &[u64], at: usize, x: u64) -> bool
@@ -85,22 +87,26 @@ pub fn is_clean(words: &[u64], marks: &[u64], a: usize, back: u64, limit: u64) -
     }
 }
 
-// 31, 32 or 0, of a word and its mark.
-pub fn fault_of(o: Move, m: u64, limit: u64) -> u64
+// 31 or 32, of a word and its mark.
+pub fn fault_of(o: Move, m: u64, limit: u64) -> Result<(), Fault>
     requires { limit ≤ deepest }
-    ensures { result ≡ fault_in limit o m }
+    ensures { told fault_number result ≡ fault_in limit o m }
 {
     let deepest = m / Mark::at(limit) % 4;
     match o {
-        Move::Other => 0,
-        Move::Compare => 0,
-        Move::Jump(_) => 0,
+        Move::Other => Ok(()),
+        Move::Compare => Ok(()),
+        Move::Jump(_) => Ok(()),
         Move::Enter(_) => if deepest == 0 {
-            0
+            Ok(())
         } else {
-            Sequence::STACK_FULL
+            Err(Fault::StackFull)
         },
-        Move::Leave => if m % 4 == 0 { 0 } else { Sequence::STACK_EMPTY },
-        Move::Loop(_) => 0,
+        Move::Leave => if m % 4 == 0 {
+            Ok(())
+        } else {
+            Err(Fault::StackEmpty)
+        },
+        Move::Loop(_) => Ok(()),
     }
 }

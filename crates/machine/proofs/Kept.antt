@@ -14,9 +14,8 @@ use Rattle.instruction.specs.declared.Refusal.{Refusal}
 use Rattle.instruction.specs.declared.Instruction.{Instruction}
 use Rattle.instruction.specs.declared.Body.{Body}
 use Rattle.instruction.specs.declared.Body.TheVariants.{Waveform, Marker, Wait, LoadRepeat, Repeat, Cmp, Goto, Call, Return, Sync, Modulator, LoadCmp, Prefetch, Noop}
-use Rattle.reader.specs.Reading.{reading_of}
-use Rattle.reader.specs.declared.Reading.{Reading}
-use Rattle.reader.specs.declared.Reading.TheVariants.{Accepted, Refused}
+use Rattle.reader.specs.Reading.{Reading, reading_of}
+use Rattle.std.specs.declared.result.Result.TheVariants.{Ok, Err}
 use Rattle.sequence.specs.Placing.{out_of_words, placing_of}
 use Rattle.sequence.proofs.Laws.{placed_words}
 use Rattle.dispatch.specs.Engines.{AllLe}
@@ -196,8 +195,8 @@ module _ (e : Fixed) (s : State) (g : Good e s) where
 
     reads : (q : Reading) → Kept e s (with_reading e s q)
     unfolding with_reading
-    reads (Accepted i) = executes i
-    reads (Refused r) = stays r
+    reads (Ok i) = executes i
+    reads (Err r) = stays r
 
 -- a step from a good state leaves a good state
 pub kept : (e : Fixed) (s : State) → Good e s → Kept e s (step_of e s)

@@ -8,7 +8,8 @@ use native.Mathlib.Decide.{ℕ_discrete}
 use native.Mathlib.Omega.{arith}
 use borrow.Author.Tests.{lt-ltb, le-ltb, le-leb, lt-leb, eq-eqb, ne_eqb, eqb-true, eqb-false}
 use lib.Dec.{ltb, eqb}
-use lib.ListN.{length, get_or}
+use lib.ListN.{length, get_or, take, drop, length-drop}
+use Rattle.std.proofs.lemmas.List.{length-take-le}
 use Rattle.instruction.specs.Bits.{pick}
 use Rattle.instruction.specs.Table.{code_of}
 use Rattle.instruction.specs.declared.Refusal.{Refusal}
@@ -16,10 +17,11 @@ use Rattle.instruction.specs.declared.Instruction.{Instruction}
 use Rattle.instruction.specs.declared.Body.{Body}
 use Rattle.instruction.specs.declared.Body.TheVariants.{Waveform, Marker, Wait, LoadRepeat, Repeat, Cmp, Goto, Call, Return, Sync, Modulator, LoadCmp, Prefetch, Noop}
 use Rattle.reader.specs.Reading.{reading_of}
-use Rattle.reader.specs.declared.Reading.TheVariants.{Accepted, Refused}
+use Rattle.std.specs.declared.result.Result.TheVariants.{Ok, Err}
 use Rattle.sequence.specs.Placing.{is_engine, placing_of}
 use Rattle.buffer.specs.Put.{put}
 use Rattle.buffer.proofs.Laws.{put_none}
+use Rattle.dispatch.specs.Trace.{part}
 use Rattle.dispatch.proofs.Counts.{picks, counted_more}
 use Rattle.instruction.specs.Form.{numbered}
 use Rattle.jumps.specs.State.{Fixed, Did, state_of, with_core, refused_by, stop, moves}
@@ -50,6 +52,15 @@ pub send_whole : (e : Fixed) (s : State) → s.core.sent + (s.core.held + 1) ≤
     → send_of e s ≡ record { end = numbered 0; state = sent e s; out = group_of e s.core }
 unfolding send_of
 send_whole e s h = rw (le-leb (s.core.sent + (s.core.held + 1)) e.room h)
+
+-- the group that goes out, as the part of the words that it is
+pub group_cut : (words : List ℕ) (at held : ℕ) → held ≤ at → take (at + 1 - (at - held)) (drop (at - held) words) ≡ part (at - held) (held + 1) words
+group_cut words at held h = let e : at + 1 - (at - held) ≡ held + 1 = omega arith in ap (λ (k : ℕ). take k (drop (at - held) words)) e
+
+pub group_long : (words : List ℕ) (at held : ℕ) → held ≤ at → at < length words → length (take (at + 1 - (at - held)) (drop (at - held) words)) ≡ held + 1
+group_long words at held h l =
+    ap length (group_cut words at held h)
+    ∙ length-take-le (held + 1) (drop (at - held) words) (omega (arith, h, l, length-drop (at - held) words))
 
 pub engine_low : (e : Fixed) (s : State) (w : ℕ) → w ≡ 0 → engine_word_of e s w ≡ moves (with_core (hold_of s.core) s)
 unfolding engine_word_of
@@ -234,11 +245,11 @@ unfolding step_of
 step_past e s h = rw (le-ltb s.core.address.0 (length e.words) h)
 
 pub step_refused : (e : Fixed) (s : State) (r : Refusal) → s.core.address.0 < length e.words
-    → reading_of e.setting.rules (get_or e.words s.core.address.0 0) ≡ Refused r → step_of e s ≡ refused_by r s
+    → reading_of e.setting.rules (get_or e.words s.core.address.0 0) ≡ Err r → step_of e s ≡ refused_by r s
 unfolding step_of with_reading
 step_refused e s r h q = rw (lt-ltb s.core.address.0 (length e.words) h, q)
 
 pub step_accepted : (e : Fixed) (s : State) (i : Instruction) → s.core.address.0 < length e.words
-    → reading_of e.setting.rules (get_or e.words s.core.address.0 0) ≡ Accepted i → step_of e s ≡ execute_of e s i
+    → reading_of e.setting.rules (get_or e.words s.core.address.0 0) ≡ Ok i → step_of e s ≡ execute_of e s i
 unfolding step_of with_reading
 step_accepted e s i h q = rw (lt-ltb s.core.address.0 (length e.words) h, q)

@@ -8,10 +8,11 @@ use Rattle.instruction.specs.declared.Body.TheVariants.{Waveform, Marker, Wait, 
 use Rattle.sequence.specs.Bounds.{stack_depth, budget_limit, group_size}
 use Rattle.sequence.specs.Placing.{placing_of}
 use Rattle.dispatch.specs.Engines.{AllLe, Counted}
-use Rattle.jumps.specs.State.{Fixed, Did, fixed_by, state_of}
-use Rattle.jumps.specs.Lent.{Traced}
+use Rattle.jumps.specs.State.{Fixed, Did, fixed_by}
+use Rattle.jumps.specs.Lent.{state_in, Leaves}
 use Rattle.jumps.specs.Asked.{CanHold}
 use Rattle.jumps.specs.declared.Core.{Core}
+use Rattle.jumps.specs.declared.Arrays.{Arrays}
 use Rattle.jumps.specs.declared.State.{State}
 use Rattle.jumps.specs.declared.Setting.{Setting}
 use Rattle.jumps.specs.declared.Stepped.{Stepped}
@@ -68,8 +69,7 @@ group_refused held i n wave =
     pick (eqb held 0) 0
     (pick (eqb (placing_of wave n i.body) 0) (pick (breaks_group held i.write i.body) 22 0) (placing_of wave n i.body))
 
--- what is left of what is lent by a function that takes no message and leaves the stack alone, whatever these are
-abbrev pub Outward : (Fixed → State → Did) → List ℕ → List ℕ → List ℕ → Core → Setting → Stepped → List ℕ → List ℕ → List ℕ → List ℕ → Type 0
-Outward did words before after s setting r waits totals waits' totals' =
-    (messages returns counters : List ℕ)
-    → Traced (did (fixed_by words messages (length before) setting) (state_of s returns counters waits totals)) s.sent before after r returns counters waits' totals'
+-- what is left of what is lent by a function that takes no message, whatever these are
+abbrev pub Outward : (Fixed → State → Did) → List ℕ → List ℕ → List ℕ → Core → Setting → Stepped → Arrays → Arrays → Type 0
+Outward did words before after s setting r arrays arrays' =
+    (messages : List ℕ) → Leaves (did (fixed_by words messages (length before) setting) (state_in s arrays)) s.sent before after r arrays'

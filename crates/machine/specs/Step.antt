@@ -1,13 +1,13 @@
 -- One step, as document 01 gives it: its order of tests, and what each instruction does. The budget is the run's.
 -- "Order of tests: budget (40); address n (30); form, 20, 21; 22; 31 or 32; 41; 42; 43."
-use Rattle.std.specs.Prelude.{ℕ, ◌+◌, ◌-◌, Bool, false, ◌||◌, ◌&&◌, List, [], ◌∷◌, ltb, eqb, leb, length, get_or}
+use Rattle.std.specs.Prelude.{ℕ, ◌+◌, ◌-◌, Bool, ◌&&◌, List, ltb, eqb, leb, length, get_or}
+use Rattle.std.specs.List.{list_any}
 use Rattle.instruction.specs.Bits.{pick}
 use Rattle.instruction.specs.declared.Instruction.{Instruction}
 use Rattle.instruction.specs.declared.Body.{Body}
 use Rattle.instruction.specs.declared.Body.TheVariants.{Waveform, Marker, Wait, LoadRepeat, Repeat, Cmp, Goto, Call, Return, Sync, Modulator, LoadCmp, Prefetch, Noop}
-use Rattle.reader.specs.Reading.{reading_of}
-use Rattle.reader.specs.declared.Reading.{Reading}
-use Rattle.reader.specs.declared.Reading.TheVariants.{Accepted, Refused}
+use Rattle.reader.specs.Reading.{Reading, reading_of}
+use Rattle.std.specs.declared.result.Result.TheVariants.{Ok, Err}
 use Rattle.sequence.specs.Bounds.{group_size}
 use Rattle.sequence.specs.Placing.{is_engine, placing_of}
 use Rattle.dispatch.specs.Engines.{waits_over, totals_over}
@@ -41,8 +41,7 @@ engine_word_of e s write = pick (eqb write 0) (moves (with_core (hold_of s.core)
 
 -- H6: "SYNC ends with 41 while any engine's count exceeds the triggers given."
 abbrev pub any_above : ℕ → List ℕ → Bool
-any_above triggers [] = false
-any_above triggers (x ∷ waits) = ltb triggers x || any_above triggers waits
+any_above triggers = list_any (ltb triggers)
 
 unfoldable pub sync_of : Fixed → State → Did
 sync_of e s = pick (any_above e.setting.triggers s.waits) (stop 41 s) (send_of e s)
@@ -79,8 +78,8 @@ execute_of e s i =
 
 -- "The step takes the reading of the word apart at once: an instruction, or else the end with its number."
 unfoldable pub with_reading : Fixed → State → Reading → Did
-with_reading e s (Accepted i) = execute_of e s i
-with_reading e s (Refused r) = refused_by r s
+with_reading e s (Ok i) = execute_of e s i
+with_reading e s (Err r) = refused_by r s
 
 -- "30 past the last word"
 unfoldable pub step_of : Fixed → State → Did

@@ -5,61 +5,46 @@
 ghost use Rattle.std.specs.Prelude.{◌≡◌, true, false, length, eqb};
 ghost use Rattle.instruction.specs.Bits.{pick};
 ghost use Rattle.instruction.specs.Table.{code_of};
-ghost use Rattle.dispatch.specs.Engines.{engine_count};
+ghost use Rattle.instruction.specs.Form.{told};
+ghost use Rattle.sequence.specs.Numbers.{place_number};
 ghost use Rattle.jumps.specs.State.{fixed_in};
 ghost use Rattle.jumps.specs.Lent.{state_in, Leaves};
 ghost use Rattle.jumps.specs.declared.Setting.{Setting};
 ghost use Rattle.machine.specs.Step.{send_of, any_above, act_of, breaks_group, execute_of, step_of};
 ghost use Rattle.machine.specs.Kept.{Outward, Sends, Ready, At, goes_out, group_refused};
 
-use dispatch::{Engines, dispatch};
+use dispatch::dispatch;
 use instruction::{Body, Instruction, QuadSamples};
-use jumps::{Core, Setting, Stepped, call, message, ret};
-use reader::{Reading, coarse_of, instruction_in};
-use sequence::Sequence;
+use jumps::{Arrays, Core, Halt, Setting, Stepped, call, message, ret};
+use reader::{coarse_of, instruction_in, judged_by};
+use sequence::{Fault, Misplaced, Sequence};
 
 // The held words and this one go out together, or 43.
-fn send(
-    words: &[u64],
-    trace: &mut [u64],
-    waits: &mut [u64; Engines::COUNT],
-    totals: &mut [u64; Engines::COUNT],
-    s: Core,
-) -> Stepped
-    requires { Sends words.now (length trace.old) s waits.old totals.old }
-    ensures { (setting : Setting) → Outward send_of words.now trace.old trace.new s setting result
-        waits.old totals.old waits.new totals.new }
+fn send(words: &[u64], trace: &mut [u64], arrays: &mut Arrays, s: Core) -> Stepped
+    requires { Sends words.now (length trace.old) s arrays.old.waits arrays.old.totals }
+    ensures { (setting : Setting) → Outward send_of words.now trace.old trace.new s setting result arrays.old arrays.new }
 {
-    let held = s.held;
-    let sent = s.sent;
-    let end = sent + (held + 1);
-    let n = (held + 1) as usize;
-    let len = sent as usize;
-    if trace.len() < end as usize {
-        return Stepped::stop(Stepped::TRACE_FULL, s);
+    let held = s.held as usize;
+    let at = s.address.0 as usize;
+    let group = &words[at - held..at + 1];
+    let sent = s.sent as usize;
+    let end = sent + group.len();
+    if trace.len() < end {
+        return Stepped::stop_for(Halt::TraceFull, s);
     }
-    let from = (s.address.0 - held) as usize;
-    dispatch(words, from, n, trace, len, waits, totals);
-    Stepped::moves(s.sends(end))
+    dispatch(group, trace, sent, &mut arrays.waits, &mut arrays.totals);
+    Stepped::moves(s.sends(end as u64))
 }
 
-fn any_above(triggers: u64, waits: &[u64; Engines::COUNT]) -> bool
-    requires { length waits.now ≡ engine_count }
-    ensures { result ≡ any_above triggers waits.now }
+// Whether one of several numbers is above a bound.
+pub fn any_above(bound: u64, numbers: &[u64]) -> bool
+    ensures { result ≡ any_above bound numbers.now }
 {
-    let mut i = 0;
-    while i < Engines::COUNT {
-        if triggers < waits[i] {
-            return true;
-        }
-        i += 1;
-    }
-    false
+    numbers.iter().any(|number| bound < *number)
 }
 
 // H6: SYNC.
-fn awaits_trigger(body: Body, triggers: u64, waits: &[u64; Engines::COUNT]) -> bool
-    requires { length waits.now ≡ engine_count }
+fn awaits_trigger(body: Body, triggers: u64, waits: &[u64]) -> bool
     ensures { result ≡ pick (eqb (code_of body) (code_of Body.Sync)) (any_above triggers waits.now) false }
 {
     if body.code() != Body::SYNC {
@@ -72,24 +57,22 @@ fn awaits_trigger(body: Body, triggers: u64, waits: &[u64; Engines::COUNT]) -> b
 fn outward(
     words: &[u64],
     trace: &mut [u64],
-    waits: &mut [u64; Engines::COUNT],
-    totals: &mut [u64; Engines::COUNT],
+    arrays: &mut Arrays,
     s: Core,
     write: u64,
     body: Body,
     setting: Setting,
 ) -> Stepped
-    requires { Sends words.now (length trace.old) s waits.old totals.old × (goes_out body ≡ true) }
-    ensures { Outward (λ e s. act_of e s write body) words.now trace.old trace.new s setting result
-        waits.old totals.old waits.new totals.new }
+    requires { Sends words.now (length trace.old) s arrays.old.waits arrays.old.totals × (goes_out body ≡ true) }
+    ensures { Outward (λ e s. act_of e s write body) words.now trace.old trace.new s setting result arrays.old arrays.new }
 {
-    if awaits_trigger(body, setting.triggers, waits) {
-        return Stepped::stop(Stepped::TRIGGER_AWAITED, s);
+    if awaits_trigger(body, setting.triggers, &arrays.waits) {
+        return Stepped::stop_for(Halt::TriggerAwaited, s);
     }
     if Sequence::is_engine(body) & (write == 0) {
         return Stepped::moves(s.hold());
     }
-    send(words, trace, waits, totals, s)
+    send(words, trace, arrays, s)
 }
 
 // What an instruction does that form, 20, 21 and 22 let through.
@@ -97,27 +80,24 @@ fn act(
     words: &[u64],
     messages: &[u8],
     trace: &mut [u64],
-    returns: &mut [u64; Sequence::STACK as usize],
-    counters: &mut [u64; Sequence::STACK as usize],
-    waits: &mut [u64; Engines::COUNT],
-    totals: &mut [u64; Engines::COUNT],
+    arrays: &mut Arrays,
     s: Core,
     write: u64,
     body: Body,
     setting: Setting,
 ) -> Stepped
-    requires { At (fixed_in words.now messages.now trace.old setting) (state_in s returns.old counters.old waits.old totals.old) }
+    requires { At (fixed_in words.now messages.now trace.old setting) (state_in s arrays.old) }
     ensures { Leaves (act_of (fixed_in words.now messages.now trace.old setting)
-        (state_in s returns.old counters.old waits.old totals.old) write body)
-        s.sent trace.old trace.new result returns.new counters.new waits.new totals.new }
+        (state_in s arrays.old) write body)
+        s.sent trace.old trace.new result arrays.new }
 {
     match body {
         Body::LoadRepeat(n) => return Stepped::moves(s.loads(n.0)),
         Body::Repeat(a) => return Stepped::moves(s.repeat(a)),
         Body::Cmp(x) => return Stepped::moves(s.compare(x)),
         Body::Goto(a) => return Stepped::moves(s.goto(a)),
-        Body::Call(a) => return call(returns, counters, s, a),
-        Body::Return(_) => return ret(returns, counters, s),
+        Body::Call(a) => return call(arrays, s, a),
+        Body::Return(_) => return ret(arrays, s),
         Body::LoadCmp(_) => return message(messages, s),
         Body::Prefetch(_) => return Stepped::moves(s.nexts()),
         Body::Noop => return Stepped::moves(s.nexts()),
@@ -128,7 +108,7 @@ fn act(
         Body::Sync => {}
         Body::Modulator(_) => {}
     }
-    outward(words, trace, waits, totals, s, write, body, setting)
+    outward(words, trace, arrays, s, write, body, setting)
 }
 
 fn breaks_group(held: u64, write: u64, body: Body) -> bool
@@ -140,22 +120,19 @@ fn breaks_group(held: u64, write: u64, body: Body) -> bool
     0 < held
 }
 
-// 20 and 21, then 22, of a word that comes while a group is held; else 0.
-fn group_refused(held: u64, i: Instruction, n: u64, wave: QuadSamples) -> u64
-    ensures { result ≡ group_refused held i n wave.0 }
+// 20 and 21, then 22, of a word that comes while a group is held.
+fn group_refused(held: u64, i: Instruction, n: u64, wave: QuadSamples) -> Result<(), Misplaced>
+    ensures { told place_number result ≡ group_refused held i n wave.0 }
 {
     if held == 0 {
-        return 0;
+        return Ok(());
     }
     let body = i.body;
-    let placing = Sequence::placing(wave, n, body);
-    if placing != 0 {
-        return placing;
-    }
+    Sequence::placing(wave, n, body)?;
     if breaks_group(held, i.write, body) {
-        return Sequence::BROKEN_GROUP;
+        return Err(Misplaced::BrokenGroup);
     }
-    0
+    Ok(())
 }
 
 // 20 and 21, then 22, then what the instruction does. Where no group is held, no word can break it.
@@ -163,32 +140,25 @@ fn execute(
     words: &[u64],
     messages: &[u8],
     trace: &mut [u64],
-    returns: &mut [u64; Sequence::STACK as usize],
-    counters: &mut [u64; Sequence::STACK as usize],
-    waits: &mut [u64; Engines::COUNT],
-    totals: &mut [u64; Engines::COUNT],
+    arrays: &mut Arrays,
     s: Core,
     i: Instruction,
     setting: Setting,
 ) -> Stepped
-    requires { At (fixed_in words.now messages.now trace.old setting) (state_in s returns.old counters.old waits.old totals.old) }
+    requires { At (fixed_in words.now messages.now trace.old setting) (state_in s arrays.old) }
     ensures { Leaves (execute_of (fixed_in words.now messages.now trace.old setting)
-        (state_in s returns.old counters.old waits.old totals.old) i)
-        s.sent trace.old trace.new result returns.new counters.new waits.new totals.new }
+        (state_in s arrays.old) i)
+        s.sent trace.old trace.new result arrays.new }
 {
     let n = words.len() as u64;
-    let refused = group_refused(s.held, i, n, setting.wave);
-    if refused != 0 {
-        return Stepped::stop(refused, s);
+    if let Err(misplaced) = group_refused(s.held, i, n, setting.wave) {
+        return Stepped::stop_for(misplaced, s);
     }
     let body = i.body;
-    let placing = Sequence::placing(setting.wave, n, body);
-    if placing != 0 {
-        return Stepped::stop(placing, s);
+    if let Err(misplaced) = Sequence::placing(setting.wave, n, body) {
+        return Stepped::stop_for(misplaced, s);
     }
-    act(
-        words, messages, trace, returns, counters, waits, totals, s, i.write, body, setting,
-    )
+    act(words, messages, trace, arrays, s, i.write, body, setting)
 }
 
 // One step. The budget is the run's.
@@ -196,29 +166,22 @@ pub fn step(
     words: &[u64],
     messages: &[u8],
     trace: &mut [u64],
-    returns: &mut [u64; Sequence::STACK as usize],
-    counters: &mut [u64; Sequence::STACK as usize],
-    waits: &mut [u64; Engines::COUNT],
-    totals: &mut [u64; Engines::COUNT],
+    arrays: &mut Arrays,
     s: Core,
     setting: Setting,
 ) -> Stepped
-    requires { Ready (fixed_in words.now messages.now trace.old setting) (state_in s returns.old counters.old waits.old totals.old) }
+    requires { Ready (fixed_in words.now messages.now trace.old setting) (state_in s arrays.old) }
     ensures { Leaves (step_of (fixed_in words.now messages.now trace.old setting)
-        (state_in s returns.old counters.old waits.old totals.old))
-        s.sent trace.old trace.new result returns.new counters.new waits.new totals.new }
+        (state_in s arrays.old))
+        s.sent trace.old trace.new result arrays.new }
 {
     let at = s.address.0 as usize;
     if words.len() <= at {
-        return Stepped::stop(Sequence::PAST_THE_END, s);
+        return Stepped::stop_for(Fault::PastTheEnd, s);
     }
     let word = words[at];
-    let reading = Reading::of(word, coarse_of(word, setting.rules), instruction_in(word));
-    let Reading::Accepted(i) = reading else {
-        let end = reading.refusal();
-        return Stepped { end, core: s };
-    };
-    execute(
-        words, messages, trace, returns, counters, waits, totals, s, i, setting,
-    )
+    match judged_by(word, coarse_of(word, setting.rules), instruction_in(word)) {
+        Ok(i) => execute(words, messages, trace, arrays, s, i, setting),
+        Err(end) => Stepped { end, core: s },
+    }
 }

@@ -8,9 +8,8 @@ use native.Mathlib.Omega.{arith}
 use lib.ListN.{length}
 use Rattle.instruction.specs.Bits.{pick}
 use Rattle.instruction.specs.declared.Rules.{Rules}
-use Rattle.reader.specs.Reading.{reading_of}
-use Rattle.reader.specs.declared.Reading.{Reading}
-use Rattle.reader.specs.declared.Reading.TheVariants.{Accepted, Refused}
+use Rattle.reader.specs.Reading.{Reading, reading_of}
+use Rattle.std.specs.declared.result.Result.TheVariants.{Ok, Err}
 use Rattle.text.specs.Cut.{Row, rows_in}
 use Rattle.text.specs.Line.{number, decimal, entry_text, line_text, text_of}
 use Rattle.text.specs.Number.{numbers}
@@ -30,8 +29,8 @@ use Rattle.moved.proofs.Shown.{accepted_word, clean_bad, bad_63}
 
 -- the number of what is read
 abbrev number_in : Reading → ℕ
-number_in (Accepted i) = 0
-number_in (Refused r) = 63
+number_in (Ok i) = 0
+number_in (Err r) = 63
 
 -- a line, with what stands behind it, is cut off, and has this number
 record Lined (n a : ℕ) (x : Reading) (more : List ℕ) : Type 0 where
@@ -41,28 +40,28 @@ record Lined (n a : ℕ) (x : Reading) (more : List ℕ) : Type 0 where
 
 -- the line of an accepted word is good, and that of a refused one is 63
 lined : (rules : Rules) (n a w : ℕ) (more : List ℕ) → a < numbers → Aims rules n w → (x : Reading) → reading_of rules w ≡ x → Lined n a x more
-lined rules n a w more h aim (Accepted i) e =
+lined rules n a w more h aim (Ok i) e =
     let r = accepted_word rules n a w i e aim in
     record {
       row = row_of (fields_one a r.word);
       first =
-          ap (λ (l : List ℕ). rows_in (l ++ more)) (line_joined (number a) (entries_in (Accepted i)) ∙ ap line_of r.fields)
+          ap (λ (l : List ℕ). rows_in (l ++ more)) (line_joined (number a) (entries_in (Ok i)) ∙ ap line_of r.fields)
           ∙ line_again (decimal a) (name_at r.word.row ∷ numerals r.word) more (clean_one a r.word r.fine);
       number = one_good a h r.word r.fine;
     }
-lined rules n a w more h aim (Refused r) e =
+lined rules n a w more h aim (Err r) e =
     record {
-      row = row_of (decimal a ∷ map entry_text (entries_in (Refused r)));
+      row = row_of (decimal a ∷ map entry_text (entries_in (Err r)));
       first =
-          ap (λ (l : List ℕ). rows_in (l ++ more)) (line_joined (number a) (entries_in (Refused r)))
-          ∙ line_again (decimal a) (map entry_text (entries_in (Refused r))) more (clean_bad a r);
+          ap (λ (l : List ℕ). rows_in (l ++ more)) (line_joined (number a) (entries_in (Err r)))
+          ∙ line_again (decimal a) (map entry_text (entries_in (Err r))) more (clean_bad a r);
       number = bad_63 a r n h;
     }
 
 -- what is judged of it and of those behind it
 judged_line : (n a : ℕ) (x : Reading) (row : Row) (rows : List Row) → number_one n a row ≡ number_in x → judged_one n a (row ∷ rows) ≡ bad_reading x a (judged_one n (a + 1) rows)
-judged_line n a (Accepted i) row rows e = judged_next n a row rows e
-judged_line n a (Refused r) row rows e = judged_bad n a row rows (λ z. omega arith) ∙ ap (λ (k : ℕ). refused_at k (a + 2)) e
+judged_line n a (Ok i) row rows e = judged_next n a row rows e
+judged_line n a (Err r) row rows e = judged_bad n a row rows (λ z. omega arith) ∙ ap (λ (k : ℕ). refused_at k (a + 2)) e
 
 -- ---- lines, one after the other
 

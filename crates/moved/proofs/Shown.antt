@@ -19,9 +19,8 @@ use Rattle.instruction.specs.declared.Field.{Field}
 use Rattle.instruction.specs.declared.Instruction.{Instruction}
 use Rattle.instruction.specs.declared.Refusal.{Refusal}
 use Rattle.instruction.specs.declared.Rules.{Rules}
-use Rattle.reader.specs.Reading.{form_in, reading_of}
-use Rattle.reader.specs.declared.Reading.{Reading}
-use Rattle.reader.specs.declared.Reading.TheVariants.{Accepted, Refused}
+use Rattle.reader.specs.Reading.{Reading, form_in, reading_of}
+use Rattle.std.specs.declared.result.Result.TheVariants.{Ok, Err}
 use Rattle.reader.proofs.Laws.{reads_noop, reads, refuses, form_10}
 use Rattle.text.specs.Line.{number, letters, decimal, entry_text}
 use Rattle.text.specs.Number.{value, numbers, is_number}
@@ -135,11 +134,11 @@ noop_word_lem n a =
 
 -- what a reading accepted
 abbrev heard : Reading → Instruction
-heard (Accepted i) = i
-heard (Refused r) = noop
+heard (Ok i) = i
+heard (Err r) = noop
 
 -- what is accepted is NOOP, or what the word spells by an op code of the table
-pub accepted_word : (rules : Rules) (n a w : ℕ) (i : Instruction) → reading_of rules w ≡ Accepted i → Aims rules n w → Reads n a (decimal a ∷ map entry_text (entries_of i))
+pub accepted_word : (rules : Rules) (n a w : ℕ) (i : Instruction) → reading_of rules w ≡ Ok i → Aims rules n w → Reads n a (decimal a ∷ map entry_text (entries_of i))
 unfolding spelled_by
 accepted_word rules n a w i e aim = by (ℕ_discrete w noop_word) (ℕ_discrete (form_in rules w) 0) (dec_lt (code_in w) 13)
   where
@@ -155,8 +154,8 @@ accepted_word rules n a w i e aim = by (ℕ_discrete w noop_word) (ℕ_discrete 
     by (no p) (no z) h = never (ap accepted (sym e ∙ refuses rules w p z))
       where
         accepted : Reading → Bool
-        accepted (Accepted i) = true
-        accepted (Refused r) = false
+        accepted (Ok i) = true
+        accepted (Err r) = false
 
 -- ---- a refused word
 
@@ -169,7 +168,7 @@ module _ (a : ℕ) (r : Refusal) where
   abbrev numbers_shown : List (List ℕ)
   numbers_shown = map entry_text (map number (bad_numbers r))
 
-  pub clean_bad : clean_fields (decimal a ∷ map entry_text (entries_in (Refused r))) ≡ true
+  pub clean_bad : clean_fields (decimal a ∷ map entry_text (entries_in (Err r))) ≡ true
   clean_bad = joins (clean_field (decimal a)) _ (clean_decimal a) (clean_entries (bad_numbers r))
 
   -- `BAD` is the name of no row
@@ -178,7 +177,7 @@ module _ (a : ℕ) (r : Refusal) where
   no_name = refl
 
   -- "63 unknown name or `BAD`"
-  pub bad_63 : (n : ℕ) → a < numbers → number_one n a (row_of (decimal a ∷ map entry_text (entries_in (Refused r)))) ≡ 63
+  pub bad_63 : (n : ℕ) → a < numbers → number_one n a (row_of (decimal a ∷ map entry_text (entries_in (Err r)))) ≡ 63
   unfolding number_one
   bad_63 n h =
       let shape : shape_number a true (decimal a ∷ letters "BAD" ∷ numbers_shown) ≡ 63 =

@@ -4,9 +4,8 @@ use Rattle.std.specs.Prelude.{◌≡◌, true, List, [], ◌∷◌, ℕ, ◌+◌
 use Rattle.instruction.specs.Table.{code_of, values_of}
 use Rattle.instruction.specs.declared.Instruction.{Instruction}
 use Rattle.instruction.specs.declared.Rules.{Rules}
-use Rattle.reader.specs.Reading.{reading_of}
-use Rattle.reader.specs.declared.Reading.{Reading}
-use Rattle.reader.specs.declared.Reading.TheVariants.{Accepted, Refused}
+use Rattle.reader.specs.Reading.{Reading, reading_of}
+use Rattle.std.specs.declared.result.Result.TheVariants.{Ok, Err}
 use Rattle.listing.specs.Listing.{listed}
 use Rattle.listing_reader.specs.ReadBack.{rows_behind, ReadsBack}
 use Rattle.listing_reader.specs.declared.ReadBack.{ReadBack}
@@ -51,7 +50,7 @@ LabelsKeepWords =
 
 -- a REPEAT, GOTO or CALL among n words has one of them as its target
 abbrev pub Aims : Rules → ℕ → ℕ → Type 0
-Aims rules n word = (i : Instruction) → reading_of rules word ≡ Accepted i → jumps (code_of i.body) ≡ true → get_or (values_of i.body) 0 0 < n
+Aims rules n word = (i : Instruction) → reading_of rules word ≡ Ok i → jumps (code_of i.body) ≡ true → get_or (values_of i.body) 0 0 < n
 
 abbrev pub AllAim : Rules → ℕ → List ℕ → Type 0
 AllAim rules n [] = Unit {0}
@@ -59,8 +58,8 @@ AllAim rules n (w ∷ ws) = Aims rules n w × AllAim rules n ws
 
 -- "never refused, but for 63 at a `BAD` line": the first word that fails form, from address a on
 abbrev pub bad_reading : Reading → ℕ → Moved → Moved
-bad_reading (Accepted i) a after = after
-bad_reading (Refused r) a after = refused_at 63 (a + 2)
+bad_reading (Ok i) a after = after
+bad_reading (Err r) a after = refused_at 63 (a + 2)
 
 abbrev pub bad_line : Rules → ℕ → List ℕ → Moved
 bad_line rules a [] = moved 0

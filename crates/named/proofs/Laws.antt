@@ -11,10 +11,10 @@ use lib.Dec.{ltb}
 use lib.ListN.{get_or, get_or-eq_default}
 use lib.Pow.{pow-lt, ones_lt, shl_exact}
 use Rattle.instruction.specs.Bits.{span}
-use Rattle.instruction.specs.Table.{op_code, engine_select, write_flag, whole_payload, payloads, payload_of}
+use Rattle.instruction.specs.Table.{InWord, op_code, engine_select, write_flag, whole_payload, payloads, payload_of}
 use Rattle.instruction.specs.declared.Field.{Field}
 use Rattle.instruction.proofs.Laws.{NoneBelow, past}
-use Rattle.named.specs.Named.{ones, mask_of, payload_bits, named_bits, InWord}
+use Rattle.named.specs.Named.{ones, mask_of, payload_bits, named_bits}
 
 both : (a b : Bool) → (a && b) ≡ true → (a ≡ true) × (b ≡ true)
 both true b e = (refl, e)

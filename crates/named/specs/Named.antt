@@ -1,8 +1,8 @@
 -- The bits that an op code names as one number, worked out from the ends of its fields. Document 02, CR 4: "Work the mask out from each op code's field ends".
 -- Not for a reader of the contracts: proofs/Masks.antt of the reader shows that it is exactly the bits that the fields name.
-use Rattle.std.specs.Prelude.{ℕ, ◌+◌, ◌-◌, ◌*◌, ◌^◌, ◌<◌, ◌≤◌, List, [], ◌∷◌}
+use Rattle.std.specs.Prelude.{ℕ, ◌+◌, ◌-◌, ◌*◌, ◌^◌, List, [], ◌∷◌}
 use Rattle.instruction.specs.Bits.{span}
-use Rattle.instruction.specs.Table.{word_bits, op_code, engine_select, write_flag, payload_of}
+use Rattle.instruction.specs.Table.{op_code, engine_select, write_flag, payload_of}
 use Rattle.instruction.specs.declared.Field.{Field}
 
 -- ones at the bits of a field
@@ -25,7 +25,3 @@ payload_bits code = mask_of (payload_of code)
 -- and in the whole word
 unfoldable pub named_bits : ℕ → ℕ
 named_bits code = mask_of (fields_of code)
-
--- a field lies within a word
-abbrev pub InWord : Field → Type 0
-InWord f = (f.low < word_bits) × (f.width < word_bits) × (f.low + f.width ≤ word_bits)

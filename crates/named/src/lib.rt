@@ -3,7 +3,8 @@
 #![tactic(auto)]
 
 ghost use Rattle.std.specs.Prelude.{◌≡◌};
-ghost use Rattle.named.specs.Named.{ones, payload_bits, named_bits, InWord};
+ghost use Rattle.instruction.specs.Table.{InWord};
+ghost use Rattle.named.specs.Named.{ones, payload_bits, named_bits};
 
 use instruction::{
     Body, Comparison, EngineOp, Field, Ignored, Instruction, MarkerFields, ModulatorFields,

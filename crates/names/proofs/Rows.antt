@@ -5,14 +5,15 @@ use mathlib.Core.Path.{◌≡◌, refl, sym, ap, ◌∙◌}
 use mathlib.Core.Bool.{Bool, true, false, ◌&&◌}
 use mathlib.Core.List.{List}
 use native.Mathlib.Omega.{arith}
-use borrow.Author.Tests.{eqb-true, leb-true}
-use lib.Dec.{eqb, leb}
+use borrow.Author.Tests.{eqb-true, leb-true, lt-ltb, le-ltb, ltb-true, ltb-false}
+use lib.Dec.{eqb, leb, ltb}
 use lib.ListN.{length, get_or}
+use Rattle.std.specs.Prelude.{Some, None}
 use Rattle.instruction.specs.Bits.{pick}
 use Rattle.text.specs.Cut.{same_text}
 use Rattle.text.proofs.Alike.{same_text_lem}
 use Rattle.text.proofs.Below.{all_below, all_below_lem}
-use Rattle.names.specs.Names.{name_count, name_at, named_from, row_named, guess_of}
+use Rattle.names.specs.Names.{name_count, name_at, named_from, row_named, row_of, guess_of}
 use Rattle.text.proofs.Bools.{both}
 
 -- ---- each name has one row
@@ -112,3 +113,26 @@ found_has text (suc n) row h = by (same_text text (name_at row)) refl h (found_h
 pub named_has : (text : List ℕ) → row_named text < name_count → text ≡ name_at (row_named text)
 unfolding row_named
 named_has text h = same_text_lem text (name_at (named_from text 0 name_count)) (found_has text name_count 0 h)
+
+-- ---- the row that has a name, where there is one
+
+module _ (text : List ℕ) where
+  pub row_told : {row : ℕ} → row < name_count → row ≡ row_named text → Some row ≡ row_of text
+  row_told {row = row} l e = ap (λ (k : ℕ). Some k) e ∙ sym (ap (λ (t : Bool). pick t (Some (row_named text)) None) (lt-ltb (row_named text) name_count (omega (arith, l, e))))
+
+  pub row_untold : name_count ≡ row_named text → None ≡ row_of text
+  row_untold e = sym (ap (λ (t : Bool). pick t (Some (row_named text)) None) (le-ltb (row_named text) name_count (omega (arith, e))))
+
+  pub row_some : {row : ℕ} → Some row ≡ row_of text → (row ≡ row_named text) × (row < name_count)
+  row_some {row = row} e = by (ltb (row_named text) name_count) refl e
+    where
+      by : (t : Bool) → ltb (row_named text) name_count ≡ t → Some row ≡ pick t (Some (row_named text)) None → (row ≡ row_named text) × (row < name_count)
+      by true f g = let h : row ≡ row_named text = cc in (h, omega (arith, h, ltb-true (row_named text) name_count f))
+      by false f g = cc
+
+  pub row_none : None ≡ row_of text → name_count ≤ row_named text
+  row_none e = by (ltb (row_named text) name_count) refl e
+    where
+      by : (t : Bool) → ltb (row_named text) name_count ≡ t → None ≡ pick t (Some (row_named text)) None → name_count ≤ row_named text
+      by true f g = cc
+      by false f g = ltb-false (row_named text) name_count f

@@ -1,6 +1,6 @@
 -- What an instruction is called: the names of document 01's table, and whose a name is.
 -- A name that is read is looked for among those that are written; there is no second table.
-use Rattle.std.specs.Prelude.{ℕ, zero, suc, List, [], eqb}
+use Rattle.std.specs.Prelude.{ℕ, zero, suc, List, [], eqb, ltb, Option, Some, None}
 use Prim.Native.String.{String}
 use Rattle.instruction.specs.Bits.{pick}
 use Rattle.instruction.specs.Table.{last_code, body_of}
@@ -42,6 +42,10 @@ named_from text row (suc n) = pick (same_text text (name_at row)) row (named_fro
 -- the row of the table that has this name, or `name_count`
 unfoldable pub row_named : List ℕ → ℕ
 row_named text = named_from text 0 name_count
+
+-- that row, where there is one
+abbrev pub row_of : List ℕ → Option ℕ
+row_of text = pick (ltb (row_named text) name_count) (Some (row_named text)) None
 
 -- ---- how it is found
 

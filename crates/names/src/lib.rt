@@ -6,7 +6,7 @@ ghost use Rattle.std.specs.Prelude.{◌≡◌, ◌∷◌};
 ghost use Rattle.buffer.specs.Put.{Fits, Put};
 ghost use Rattle.text.specs.Cut.{tab, same_text};
 ghost use Rattle.text.specs.Line.{letters};
-ghost use Rattle.names.specs.Names.{name_of, name_at, row_named, guess_of};
+ghost use Rattle.names.specs.Names.{name_of, name_at, row_of, guess_of};
 
 use instruction::Body;
 use page::put_word;
@@ -99,16 +99,16 @@ fn guess(third: u8, size: usize) -> u64
     }
 }
 
-// The row of the table that has this name, or their count where none has it.
-pub fn named(text: &[u8]) -> u64
-    ensures { result ≡ row_named text.now }
+// The row of the table that has this name.
+pub fn named(text: &[u8]) -> Option<u64>
+    ensures { result ≡ row_of text.now }
 {
     if text.len() < Names::SHORTEST {
-        return Names::COUNT;
+        return None;
     }
     let row = guess(text[2], text.len());
     if is_name(text, row) {
-        return row;
+        return Some(row);
     }
-    Names::COUNT
+    None
 }

@@ -8,9 +8,7 @@ ghost use Rattle.nest.specs.Block.{nest_limit, high};
 ghost use Rattle.nest.specs.Layout.{sheet, put, opening, closing, parked};
 
 use instruction::{Body, Ignored, Instruction, Repeats, WaveformFields, WordAddress};
-use laid::word::{
-    call_word, goto_word, load_repeat_word, repeat_word, return_word, sync_word, waveform_word,
-};
+use laid::word::word_of;
 use sequence::Sequence;
 
 #[derive(Clone, Copy)]
@@ -55,6 +53,18 @@ pub enum Line {
     Unshaped,
 }
 
+// The word of a body, with its flag.
+#[inline(always)]
+fn word(body: Body, write: u64) -> u64
+    ensures { result ≡ word_of (record { engine = 0; write = write; body = body }) }
+{
+    word_of(Instruction {
+        engine: Nest::ENGINE,
+        write,
+        body,
+    })
+}
+
 // A word, at the next place of a level.
 fn put_one(word: u64, level: usize, heads: &mut [usize; Nest::LEVELS], words: &mut [u64])
     requires { (level ≤ nest_limit) × (get_or heads.old level 0 < length words.old) }
@@ -69,7 +79,7 @@ pub fn put_sync(heads: &mut [usize; Nest::LEVELS], words: &mut [u64])
     requires { get_or heads.old 0 0 < length words.old }
     ensures { sheet heads.new words.new ≡ put 0 (high Body.Sync ∷ []) (sheet heads.old words.old) }
 {
-    put_one(sync_word(Nest::ENGINE, Nest::HIGH), 0, heads, words);
+    put_one(word(Body::Sync, Nest::HIGH), 0, heads, words);
 }
 
 // A GOTO to itself.
@@ -78,7 +88,7 @@ pub fn put_park(heads: &mut [usize; Nest::LEVELS], words: &mut [u64])
     ensures { sheet heads.new words.new ≡ parked (sheet heads.old words.old) }
 {
     let here = WordAddress(heads[0] as u64);
-    put_one(goto_word(here, Nest::ENGINE, Nest::LOW), 0, heads, words);
+    put_one(word(Body::Goto(here), Nest::LOW), 0, heads, words);
 }
 
 pub fn put_pulse(
@@ -90,12 +100,7 @@ pub fn put_pulse(
     requires { (level ≤ nest_limit) × (get_or heads.old level 0 < length words.old) }
     ensures { sheet heads.new words.new ≡ put level (high (Body.Waveform f) ∷ []) (sheet heads.old words.old) }
 {
-    put_one(
-        waveform_word(f, Nest::ENGINE, Nest::HIGH),
-        level,
-        heads,
-        words,
-    );
+    put_one(word(Body::Waveform(f), Nest::HIGH), level, heads, words);
 }
 
 // The RETURN that ends a body.
@@ -104,7 +109,7 @@ pub fn close_repeat(level: usize, heads: &mut [usize; Nest::LEVELS], words: &mut
     ensures { sheet heads.new words.new ≡ put level closing (sheet heads.old words.old) }
 {
     put_one(
-        return_word(Ignored(0), Nest::ENGINE, Nest::LOW),
+        word(Body::Return(Ignored(0)), Nest::LOW),
         level,
         heads,
         words,
@@ -119,8 +124,8 @@ pub fn open_repeat(n: u64, level: usize, heads: &mut [usize; Nest::LEVELS], word
     let here = heads[level];
     let call = here + 1;
     let body = heads[level + 1];
-    words[here] = load_repeat_word(Repeats(n - 1), Nest::ENGINE, Nest::LOW);
-    words[call] = call_word(WordAddress(body as u64), Nest::ENGINE, Nest::LOW);
-    words[here + 2] = repeat_word(WordAddress(call as u64), Nest::ENGINE, Nest::LOW);
+    words[here] = word(Body::LoadRepeat(Repeats(n - 1)), Nest::LOW);
+    words[call] = word(Body::Call(WordAddress(body as u64)), Nest::LOW);
+    words[here + 2] = word(Body::Repeat(WordAddress(call as u64)), Nest::LOW);
     heads[level] = here + 3;
 }

@@ -2,10 +2,12 @@
 // Whoever writes lines has made room on the page before, so that no byte asks for it.
 #![tactic(auto)]
 
-ghost use Rattle.std.specs.Prelude.{◌≡◌, [], ◌∷◌, ◌%◌, ◌<◌, length};
+ghost use Rattle.std.specs.Prelude.{◌≡◌, [], ◌∷◌, ◌%◌, ◌<◌, length, map};
 ghost use Rattle.buffer.specs.Put.{Fits, Put};
 ghost use Rattle.text.specs.Cut.{tab};
 ghost use Rattle.text.specs.Line.{number, digit, decimal, rest_text};
+
+use buffer::lay;
 
 // Digits that are counted at a time, and the least number that has more.
 const STEP: usize = 4;
@@ -17,16 +19,12 @@ fn few_digits(n: u64) -> usize
     requires { n < 10000 }
     ensures { result ≡ length (decimal n) }
 {
-    if n < 10 {
-        return 1;
+    match n {
+        0..=9 => 1,
+        10..=99 => 2,
+        100..=999 => 3,
+        _ => STEP,
     }
-    if n < 100 {
-        return 2;
-    }
-    if n < 1000 {
-        return 3;
-    }
-    STEP
 }
 
 // Four digits at a time.
@@ -35,6 +33,7 @@ pub fn digit_count(n: u64) -> usize
 {
     let mut rest = n;
     let mut count: usize = 0;
+    // No index is counted: the number grows shorter.
     while PAST_STEP <= rest {
         rest = rest / PAST_STEP;
         count += STEP;
@@ -55,14 +54,11 @@ pub fn put_number(page: &mut [u8], at: usize, n: u64) -> usize
     ensures { Put (decimal n) page.old at page.new result }
 {
     let end = at + digit_count(n);
-    let mut i = end - 1;
     let mut rest = n;
-    while 10 <= rest {
+    for i in (at..end).rev() {
         page[i] = last_digit(rest);
-        rest = rest / 10;
-        i -= 1;
+        rest /= 10;
     }
-    page[i] = last_digit(rest);
     end
 }
 
@@ -72,18 +68,6 @@ pub fn put_byte(page: &mut [u8], at: usize, b: u8) -> usize
 {
     page[at] = b;
     at + 1
-}
-
-pub fn put_text(page: &mut [u8], at: usize, text: &[u8]) -> usize
-    requires { Fits text.now page.old at }
-    ensures { Put text.now page.old at page.new result }
-{
-    let mut i: usize = 0;
-    while i < text.len() {
-        page[at + i] = text[i];
-        i += 1;
-    }
-    at + i
 }
 
 pub fn put_end(page: &mut [u8], at: usize) -> usize
@@ -99,7 +83,7 @@ pub fn put_word(page: &mut [u8], at: usize, text: &[u8]) -> usize
     ensures { Put (tab ∷ text.now) page.old at page.new result }
 {
     let from = put_byte(page, at, b'\t');
-    put_text(page, from, text)
+    lay(page, from, text)
 }
 
 // A number, after a tab.
@@ -111,35 +95,15 @@ pub fn put_value(page: &mut [u8], at: usize, n: u64) -> usize
     put_number(page, from, n)
 }
 
-// The last numbers of a line, one to four of them.
-pub fn put_one(page: &mut [u8], at: usize, a: u64) -> usize
-    requires { Fits (rest_text (number a ∷ [])) page.old at }
-    ensures { Put (rest_text (number a ∷ [])) page.old at page.new result }
+// The last numbers of a line.
+#[inline(never)]
+pub fn put_numbers(page: &mut [u8], at: usize, numbers: &[u64]) -> usize
+    requires { Fits (rest_text (map number numbers.now)) page.old at }
+    ensures { Put (rest_text (map number numbers.now)) page.old at page.new result }
 {
-    let end = put_value(page, at, a);
+    let mut end = at;
+    for n in numbers {
+        end = put_value(page, end, *n);
+    }
     put_end(page, end)
-}
-
-pub fn put_two(page: &mut [u8], at: usize, a: u64, b: u64) -> usize
-    requires { Fits (rest_text (number a ∷ number b ∷ [])) page.old at }
-    ensures { Put (rest_text (number a ∷ number b ∷ [])) page.old at page.new result }
-{
-    let end = put_value(page, at, a);
-    put_one(page, end, b)
-}
-
-pub fn put_three(page: &mut [u8], at: usize, a: u64, b: u64, c: u64) -> usize
-    requires { Fits (rest_text (number a ∷ number b ∷ number c ∷ [])) page.old at }
-    ensures { Put (rest_text (number a ∷ number b ∷ number c ∷ [])) page.old at page.new result }
-{
-    let end = put_value(page, at, a);
-    put_two(page, end, b, c)
-}
-
-pub fn put_four(page: &mut [u8], at: usize, a: u64, b: u64, c: u64, d: u64) -> usize
-    requires { Fits (rest_text (number a ∷ number b ∷ number c ∷ number d ∷ [])) page.old at }
-    ensures { Put (rest_text (number a ∷ number b ∷ number c ∷ number d ∷ [])) page.old at page.new result }
-{
-    let end = put_value(page, at, a);
-    put_three(page, end, b, c, d)
 }

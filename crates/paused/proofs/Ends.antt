@@ -15,9 +15,8 @@ use Rattle.instruction.specs.declared.Refusal.{Refusal}
 use Rattle.instruction.specs.declared.Rules.{Rules}
 use Rattle.instruction.specs.declared.Body.{Body}
 use Rattle.instruction.specs.declared.Body.TheVariants.{Waveform, Marker, Wait, LoadRepeat, Repeat, Cmp, Goto, Call, Return, Sync, Modulator, LoadCmp, Prefetch, Noop}
-use Rattle.reader.specs.Reading.{no_such_code, has_kind, not_its_op, form_in, refused_with, reading_of}
-use Rattle.reader.specs.declared.Reading.{Reading}
-use Rattle.reader.specs.declared.Reading.TheVariants.{Accepted, Refused}
+use Rattle.reader.specs.Reading.{Reading, no_such_code, has_kind, not_its_op, form_in, refused_with, reading_of}
+use Rattle.std.specs.declared.result.Result.TheVariants.{Ok, Err}
 use Rattle.sequence.specs.Placing.{on_engine, out_of_wave, out_of_words, placing_of}
 use Rattle.dispatch.proofs.Counts.{picks}
 use Rattle.jumps.specs.State.{Fixed, Did}
@@ -66,8 +65,8 @@ word_fair rules word = record { moved = λ z. ap (refused_with word) z; other = 
 
 -- of a reading that is refused
 abbrev FairRead : Reading → Type 0
-FairRead (Accepted i) = Unit {0}
-FairRead (Refused r) = Fair r
+FairRead (Ok i) = Unit {0}
+FairRead (Err r) = Fair r
 
 read_fair : (rules : Rules) (word : ℕ) → FairRead (reading_of rules word)
 unfolding reading_of
@@ -141,8 +140,8 @@ module _ (e : Fixed) (s : State) where
 
   reading_fair : (q : Reading) → FairRead q → Ends (with_reading e s q)
   unfolding with_reading
-  reading_fair (Accepted i) p = execute_fair i
-  reading_fair (Refused r) p = p
+  reading_fair (Ok i) p = execute_fair i
+  reading_fair (Err r) p = p
 
   pub step_fair : Fair (step_of e s).end
   unfolding step_of

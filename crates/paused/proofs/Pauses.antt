@@ -23,13 +23,22 @@ use Rattle.rehearsal.specs.Run.{onto, run_of, input_refused}
 use Rattle.rehearsal.proofs.Runs.{input_good}
 use Rattle.left.specs.Left.{could_be_left}
 use Rattle.left.proofs.Laws.{left_good}
-use Rattle.paused.specs.Pause.{call_refused, done_by, went_by, refused_with, called, Called, steps_of, ends_of, CanGoOn}
+use Rattle.sequence.proofs.Laws.{input_some}
+use Rattle.paused.specs.declared.BadCall.{BadCall}
+use Rattle.paused.specs.declared.BadCall.TheVariants.{Input, NoSuchState, LessThanLastTime}
+use Rattle.paused.specs.Pause.{call_number, call_refused, done_by, went_by, refused_with, called, Called, steps_of, ends_of, CanGoOn}
 use Rattle.paused.specs.declared.Paused.{Paused}
 use Rattle.paused.specs.declared.Pace.{Pace}
 use Rattle.paused.specs.declared.Pace.TheVariants.{Single, On}
 use Rattle.paused.proofs.Ends.{step_fair}
 
 -- ---- refusals, first to last
+
+-- no number is 0, which refuses nothing
+pub call_some : (bad : BadCall) → call_number bad ≡ 0 → ⊥
+call_some (Input bad) e = input_some bad e
+call_some NoSuchState e = omega (arith, e)
+call_some LessThanLastTime e = omega (arith, e)
 
 -- 1, 2, 3, 5
 abbrev pub input_of : ℕ → Fixed → ℕ

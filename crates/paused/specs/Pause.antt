@@ -1,11 +1,13 @@
 -- A call on a run that pauses, document 02, CR 8: what it is refused for, what it does, and what it leaves.
 -- "Keep the run state between calls, updated where the host holds it, with a single-step call and a go-on call, both taking budget, messages and triggers".
-use Rattle.std.specs.Prelude.{ℕ, ◌-◌, ◌≤◌, Bool, true, false, not, ◌||◌, ◌&&◌, List, [], ◌≡◌, ltb, eqb, length}
+use Rattle.std.specs.Prelude.{refl, ℕ, ◌-◌, ◌≤◌, Bool, true, false, not, ◌||◌, ◌&&◌, List, [], ◌≡◌, ltb, eqb, length}
 use Rattle.instruction.specs.Bits.{pick, ◌gives◌else◌}
 use Rattle.instruction.specs.Form.{numbered}
 use Rattle.instruction.specs.declared.Refusal.{Refusal}
 use Rattle.buffer.specs.Put.{put}
 use Rattle.sequence.specs.Bounds.{budget_limit}
+use Rattle.sequence.specs.Numbers.{input_number, input_numbered}
+use Rattle.sequence.specs.declared.BadInput.TheVariants.{NoWords, TooManyWords, TooMuchWave, ShortMarks, TooMuchBudget}
 use Rattle.jumps.specs.State.{Fixed, fixed_in, Did, fresh, stop, stopped}
 use Rattle.jumps.specs.declared.Setting.{Setting}
 use Rattle.jumps.specs.declared.State.{State}
@@ -15,6 +17,8 @@ use Rattle.machine.specs.Kept.{Good}
 use Rattle.rehearsal.specs.Run.{run_of, input_refused}
 use Rattle.left.specs.Left.{could_be_left}
 use Rattle.paused.specs.declared.Paused.{Paused}
+use Rattle.paused.specs.declared.BadCall.{BadCall}
+use Rattle.paused.specs.declared.BadCall.TheVariants.{Input, NoSuchState, LessThanLastTime}
 use Rattle.paused.specs.declared.Asked.{Asked}
 use Rattle.paused.specs.declared.Pace.{Pace}
 use Rattle.paused.specs.declared.Pace.TheVariants.{Single, On}
@@ -24,6 +28,24 @@ abbrev pub fresh_paused : Paused
 fresh_paused = record { state = fresh; budget = 0; triggers = 0 }
 
 -- ---- refusals
+
+-- the number of each thing that a call is refused for
+abbrev pub call_number : BadCall → ℕ
+call_number (Input bad) = input_number bad
+call_number NoSuchState = 70
+call_number LessThanLastTime = 71
+
+abbrev pub call_numbered : ℕ → BadCall
+call_numbered n = pick (eqb n 70) NoSuchState (pick (eqb n 71) LessThanLastTime (Input (input_numbered n)))
+
+pub call_told_apart : (bad : BadCall) → call_numbered (call_number bad) ≡ bad
+call_told_apart (Input NoWords) = refl
+call_told_apart (Input TooManyWords) = refl
+call_told_apart (Input TooMuchWave) = refl
+call_told_apart (Input ShortMarks) = refl
+call_told_apart (Input TooMuchBudget) = refl
+call_told_apart NoSuchState = refl
+call_told_apart LessThanLastTime = refl
 
 -- "Refusals: 70 such a field, 71 fewer triggers or less budget than last time, after 1 to 5"; 0 where none is given
 unfoldable pub call_refused : ℕ → Fixed → Paused → ℕ

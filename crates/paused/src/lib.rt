@@ -3,16 +3,17 @@
 #![tactic(auto)]
 
 ghost use Rattle.std.specs.Prelude.{◌≡◌};
-ghost use Rattle.jumps.specs.State.{fixed_by, fixed_in, state_of};
+ghost use Rattle.jumps.specs.State.{fixed_by, fixed_in};
 ghost use Rattle.jumps.specs.Lent.{state_in, Leaves};
-ghost use Rattle.paused.specs.Pause.{fresh_paused, call_refused, done_by, steps_of, is_single, ends_of, CanGoOn, setting_of, Does};
+ghost use Rattle.instruction.specs.Form.{told};
+ghost use Rattle.paused.specs.declared.BadCall.TheVariants.{Input};
+ghost use Rattle.paused.specs.Pause.{call_number, call_numbered, call_told_apart, fresh_paused, call_refused, done_by, steps_of, is_single, ends_of, CanGoOn, setting_of, Does};
 
-use dispatch::Engines;
-use instruction::{QuadSamples, Refusal, Rules};
-use jumps::{Core, Setting, State, Stepped};
+use instruction::{Numbered, QuadSamples, Refusal, Rules};
+use jumps::{Arrays, Core, Halt, Setting, State, Stepped};
 use left::could_be_left;
 use rehearsal::{Answer, input_refused, run_from};
-use sequence::Sequence;
+use sequence::BadInput;
 
 // What the host holds: the state of the run, and what the last call that was not refused gave.
 #[derive(Clone, Copy)]
@@ -44,11 +45,39 @@ pub struct Moved {
     pub paused: Paused,
 }
 
+// What a call is refused for: its input, the state that it is handed, or less than last time.
+#[derive(Clone, Copy, PartialEq, Eq)]
+pub enum BadCall {
+    Input(BadInput),
+    NoSuchState,
+    LessThanLastTime,
+}
+
+impl From<BadInput> for BadCall {
+    ghost from_gives = { λ bad e. e ≡ Input bad };
+
+    fn from(bad: BadInput) -> BadCall {
+        BadCall::Input(bad)
+    }
+}
+
+impl Numbered for BadCall {
+    ghost number_of = { call_number };
+
+    ghost numbered = { call_numbered };
+
+    ghost told_apart = { call_told_apart };
+
+    fn number(self) -> u64 {
+        match self {
+            BadCall::Input(bad) => bad.number(),
+            BadCall::NoSuchState => 70,
+            BadCall::LessThanLastTime => 71,
+        }
+    }
+}
+
 impl Paused {
-    pub const NO_SUCH_STATE: u64 = 70;
-
-    pub const LESS_THAN_LAST_TIME: u64 = 71;
-
     // All zeros.
     pub fn fresh() -> Paused
         ensures { result ≡ fresh_paused }
@@ -61,25 +90,11 @@ impl Paused {
     }
 
     // What was asked is last time's to the next call.
-    fn put_together(
-        core: Core,
-        returns: [u64; Sequence::STACK as usize],
-        counters: [u64; Sequence::STACK as usize],
-        waits: [u64; Engines::COUNT],
-        totals: [u64; Engines::COUNT],
-        asked: Asked,
-    ) -> Paused
-        ensures { result ≡ record { state = state_of core returns counters waits totals; budget = asked.budget; triggers = asked.triggers } }
+    fn put_together(core: Core, arrays: Arrays, asked: Asked) -> Paused
+        ensures { result ≡ record { state = state_in core arrays; budget = asked.budget; triggers = asked.triggers } }
     {
-        let state = State {
-            core,
-            returns,
-            counters,
-            waits,
-            totals,
-        };
         Paused {
-            state,
+            state: State::of(core, arrays),
             budget: asked.budget,
             triggers: asked.triggers as u64,
         }
@@ -130,23 +145,27 @@ impl Asked {
     }
 }
 
-// 1, 2, 3, 5, then 70, then 71, or 0.
-fn refused(words: &[u64], messages: &[u8], room: u64, p: Paused, asked: Asked) -> u64
-    ensures { result ≡ call_refused asked.budget (fixed_by words.now messages.now room (setting_of asked)) p }
+// 1, 2, 3, 5, then 70, then 71.
+#[tactic(auto, unfolding(crate::specs::Pause::call_refused))]
+fn refused(
+    words: &[u64],
+    messages: &[u8],
+    room: u64,
+    p: Paused,
+    asked: Asked,
+) -> Result<(), BadCall>
+    ensures { told call_number result ≡ call_refused asked.budget (fixed_by words.now messages.now room (setting_of asked)) p }
 {
     let wave = asked.wave;
-    let input = input_refused(words.len() as u64, wave, asked.budget);
-    if input != 0 {
-        return input;
-    }
+    input_refused(words.len() as u64, wave, asked.budget)?;
     let s = p.state;
     if !could_be_left(words, messages, room, s, p.budget, asked.setting()) {
-        return Paused::NO_SUCH_STATE;
+        return Err(BadCall::NoSuchState);
     }
     if ((asked.triggers as u64) < p.triggers) | (asked.budget < p.budget) {
-        return Paused::LESS_THAN_LAST_TIME;
+        return Err(BadCall::LessThanLastTime);
     }
-    0
+    Ok(())
 }
 
 // A step, or the steps that the budget leaves, of a state whose arrays are lent. Both are the run's loop: measured, a step with two callers takes three times as long.
@@ -154,32 +173,26 @@ fn goes_on(
     words: &[u64],
     messages: &[u8],
     trace: &mut [u64],
-    returns: &mut [u64; Sequence::STACK as usize],
-    counters: &mut [u64; Sequence::STACK as usize],
-    waits: &mut [u64; Engines::COUNT],
-    totals: &mut [u64; Engines::COUNT],
+    arrays: &mut Arrays,
     s: Core,
     pace: Pace,
     budget: u64,
     setting: Setting,
 ) -> Stepped
-    requires { CanGoOn budget (fixed_in words.now messages.now trace.old setting) (state_in s returns.old counters.old waits.old totals.old) }
+    requires { CanGoOn budget (fixed_in words.now messages.now trace.old setting) (state_in s arrays.old) }
     ensures { Leaves (done_by pace budget (fixed_in words.now messages.now trace.old setting)
-        (state_in s returns.old counters.old waits.old totals.old))
-        s.sent trace.old trace.new result returns.new counters.new waits.new totals.new }
+        (state_in s arrays.old))
+        s.sent trace.old trace.new result arrays.new }
 {
     let done = s.steps;
     if budget <= done {
-        return Stepped::stop(Answer::BUDGET_SPENT, s);
+        return Stepped::stop_for(Halt::BudgetSpent, s);
     }
     let r = run_from(
         words,
         messages,
         trace,
-        returns,
-        counters,
-        waits,
-        totals,
+        arrays,
         s,
         pace.steps(budget - done),
         setting,
@@ -201,18 +214,12 @@ fn moves_on(
 {
     let s = p.state;
     let core = s.core;
-    let mut returns = s.returns;
-    let mut counters = s.counters;
-    let mut waits = s.waits;
-    let mut totals = s.totals;
+    let mut arrays = s.arrays();
     let r = goes_on(
         words,
         messages,
         trace,
-        &mut returns,
-        &mut counters,
-        &mut waits,
-        &mut totals,
+        &mut arrays,
         core,
         pace,
         asked.budget,
@@ -220,12 +227,12 @@ fn moves_on(
     );
     let end = r.end;
     let last = r.core;
-    let paused = Paused::put_together(last, returns, counters, waits, totals, asked);
+    let paused = Paused::put_together(last, arrays, asked);
     Moved { end, paused }
 }
 
 // A call by value: refused with nothing changed, or done.
-fn advance(
+pub fn advance(
     words: &[u64],
     messages: &[u8],
     trace: &mut [u64],
@@ -236,9 +243,9 @@ fn advance(
     ensures { Does pace words.now messages.now trace.old trace.new p asked result.end result.paused }
 {
     let no = refused(words, messages, trace.len() as u64, p, asked);
-    if no != 0 {
+    if let Err(bad) = no {
         return Moved {
-            end: Refusal { number: no, bit: 0 },
+            end: Refusal::numbered(bad.number()),
             paused: p,
         };
     }
@@ -271,6 +278,24 @@ fn held_of(r: Moved) -> Paused
     r.paused
 }
 
+// A call on the run whose state the host holds.
+fn call_held(
+    words: &[u64],
+    messages: &[u8],
+    trace: &mut [u64],
+    state: &mut Paused,
+    asked: Asked,
+    pace: Pace,
+) -> Refusal
+    ensures { Does pace words.now messages.now trace.old trace.new state.old asked result state.new }
+{
+    let p = *state;
+    let r = advance(words, messages, trace, p, asked, pace);
+    let next = held_of(r);
+    *state = next;
+    end_of(r)
+}
+
 // A single step of the run whose state the host holds.
 pub fn step_once(
     words: &[u64],
@@ -281,11 +306,7 @@ pub fn step_once(
 ) -> Refusal
     ensures { Does Pace.Single words.now messages.now trace.old trace.new state.old asked result state.new }
 {
-    let p = *state;
-    let r = stepped(words, messages, trace, p, asked);
-    let next = held_of(r);
-    *state = next;
-    end_of(r)
+    call_held(words, messages, trace, state, asked, Pace::Single)
 }
 
 // The run whose state the host holds goes on.
@@ -298,9 +319,5 @@ pub fn go_on(
 ) -> Refusal
     ensures { Does Pace.On words.now messages.now trace.old trace.new state.old asked result state.new }
 {
-    let p = *state;
-    let r = gone_on(words, messages, trace, p, asked);
-    let next = held_of(r);
-    *state = next;
-    end_of(r)
+    call_held(words, messages, trace, state, asked, Pace::On)
 }

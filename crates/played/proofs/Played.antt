@@ -22,7 +22,7 @@ use Rattle.nest.specs.Layout.{size_of, park_of, words_of}
 use Rattle.nest.proofs.Stands.{Whole}
 use Rattle.nest.proofs.Wholes.{words_length, whole}
 use Rattle.block.specs.Text.{block_of}
-use Rattle.block.specs.declared.Translation.{Translation}
+use Rattle.text.specs.Told.{number_in, count_in}
 use Rattle.block.proofs.Whole.{accepted_is}
 use Rattle.demands.specs.Run.{Extends}
 use Rattle.demands.proofs.Exact.{refused_exactly}
@@ -50,15 +50,15 @@ written : (wave : ℕ) (text words : List ℕ) → Wrote wave text words → Wri
 written wave text words w =
     let b = block_of text in
     let told = w.meets.answer in
-    let a = accepted_is wave (length w.before) text (sym (ap (λ (t : Translation). t.number) told) ∙ w.accepted) in
-    let count : w.told.count ≡ length (words_of b) = ap (λ (t : Translation). t.count) (told ∙ a.told) ∙ sym (words_length wave b a.fair) in
+    let a = accepted_is wave (length w.before) text (sym (ap number_in told) ∙ w.accepted) in
+    let count : count_in w.told ≡ length (words_of b) = ap count_in (told ∙ a.told) ∙ sym (words_length wave b a.fair) in
     record {
       wave = a.wave;
       fair = a.fair;
       few = a.words;
       words =
           w.words
-          ∙ ap (take w.told.count) (w.meets.words ∙ ap (λ (t : Bool). pick t (words_of b ++ drop (size_of b) w.before) w.before) (eq-eqb w.told.number 0 w.accepted))
+          ∙ ap (take (count_in w.told)) (w.meets.words ∙ ap (λ (t : Bool). pick t (words_of b ++ drop (size_of b) w.before) w.before) (eq-eqb (number_in w.told) 0 w.accepted))
           ∙ ap (λ (k : ℕ). take k (words_of b ++ drop (size_of b) w.before)) count
           ∙ front (words_of b) (drop (size_of b) w.before);
     }

@@ -17,9 +17,8 @@ use Rattle.instruction.specs.declared.Refusal.{Refusal}
 use Rattle.instruction.specs.declared.WaveformFields.{WaveformFields}
 use Rattle.instruction.specs.declared.Instruction.{Instruction}
 use Rattle.instruction.specs.declared.Body.TheVariants.{Waveform, LoadRepeat, Repeat, Goto, Call, Return, Sync}
-use Rattle.reader.specs.Reading.{reading_of}
-use Rattle.reader.specs.declared.Reading.{Reading}
-use Rattle.reader.specs.declared.Reading.TheVariants.{Accepted, Refused}
+use Rattle.reader.specs.Reading.{Reading, reading_of}
+use Rattle.std.specs.declared.result.Result.TheVariants.{Ok, Err}
 use Rattle.writer.specs.Writing.{asked_of}
 use Rattle.writer.specs.declared.Written.{Written}
 use Rattle.writer.proofs.Laws.{written_good}
@@ -79,7 +78,7 @@ pulse_sound rules wave n f z =
     by x y true p q = absurd (eqb-false x 0 (not-true (eqb x 0) p) q)
     by x y false p q = (eqb-true x 0 (not-false (eqb x 0) p), q)
 
-pub reads_back : (rules : Rules) (i : Instruction) → asked_of rules i ≡ 0 → reading_of rules (word_of i) ≡ Accepted i
+pub reads_back : (rules : Rules) (i : Instruction) → asked_of rules i ≡ 0 → reading_of rules (word_of i) ≡ Ok i
 reads_back rules i z = ap (λ (x : Written). reading_of rules x.word) (sym (written_good rules i z)) ∙ write_read rules i (ap (λ (x : Written). x.number) (written_good rules i z) ∙ z)
 
 -- ---- an instruction that stands at a place
@@ -89,12 +88,12 @@ pub record Takes (rules : Rules) (wave : ℕ) (words : List ℕ) (p : ℕ) (i : 
   pub sound : Sound rules wave (length words) i
 
 -- an accepted instruction is told by its reading
-accepted_one : {i j : Instruction} → Accepted i ≡ Accepted j → i ≡ j
+accepted_one : {i j : Instruction} → ◌≡◌ {A = Reading} (Ok i) (Ok j) → i ≡ j
 accepted_one {i} e = ap instruction e
   where
     instruction : Reading → Instruction
-    instruction (Accepted k) = k
-    instruction (Refused r) = i
+    instruction (Ok k) = k
+    instruction (Err r) = i
 
 -- no low engine word, so no group that is left open
 closed : (i : Instruction) (above : List ℕ) → (is_engine i.body && eqb i.write 0) ≡ false → left_open i above ≡ false
@@ -107,7 +106,7 @@ closed i above e = by (is_engine i.body) (eqb i.write 0) _ e
     by false q r h = refl
 
 module _ (rules : Rules) (wave : ℕ) (words : List ℕ) {p : ℕ} {i : Instruction} (t : Takes rules wave words p i) where
-  pub reads_at : reading_of rules (get_or words p 0) ≡ Accepted i
+  pub reads_at : reading_of rules (get_or words p 0) ≡ Ok i
   reads_at = ap (reading_of rules) t.at.1 ∙ reads_back rules i t.sound.asked
 
   pub passes_at : Passes rules wave words p

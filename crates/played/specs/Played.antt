@@ -14,7 +14,7 @@ use Rattle.verdict.specs.declared.Verdict.{Verdict}
 use Rattle.nest.specs.Block.{Block, done, pulse, repeat, high}
 use Rattle.nest.specs.Layout.{size_of, park_of}
 use Rattle.block.specs.Text.{block_of, Translates}
-use Rattle.block.specs.declared.Translation.{Translation}
+use Rattle.text.specs.Told.{Told, number_in, count_in}
 
 -- ---- what a block says
 
@@ -48,10 +48,10 @@ steps_to b = 1 + steps_in b
 pub record Wrote (w : ℕ) (text ws : List ℕ) : Type 0 where
   pub before : List ℕ
   pub after : List ℕ
-  pub told : Translation
+  pub told : Told
   pub meets : Translates w text before after told
-  pub accepted : told.number ≡ 0
-  pub words : ws ≡ take told.count after
+  pub accepted : number_in told ≡ 0
+  pub words : ws ≡ take (count_in told) after
 
 -- a run of words at a waveform length, with whatever rules, messages, triggers and room
 pub record RunOf (w : ℕ) (ws : List ℕ) (e : Fixed) : Type 0 where

@@ -4,7 +4,8 @@ use Rattle.std.specs.Prelude.{ℕ, ◌≡◌, List, [], ◌∷◌, map, length}
 use Prim.Native.String.{String}
 use Rattle.text.specs.Line.{name, number, Line, text_of}
 use Rattle.nest.specs.Layout.{park_of, words_of}
-use Rattle.block.specs.Text.{block_of, accepted, translation}
+use Rattle.text.specs.Told.{accepted}
+use Rattle.block.specs.Text.{block_of, translation}
 use Rattle.played.specs.Played.{dispatched_by, steps_to}
 
 abbrev line : String → List ℕ → Line

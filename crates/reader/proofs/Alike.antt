@@ -9,7 +9,7 @@ use Rattle.instruction.specs.Rules.{older, current}
 use Rattle.instruction.specs.Word.{spelled_by}
 use Rattle.instruction.proofs.Alike.{before_24, only_24, form_alike, form_alone}
 use Rattle.reader.specs.Reading.{no_such_code, has_kind, not_its_op, form_in, refused_with, judged, reading_of, number_of}
-use Rattle.reader.specs.declared.Reading.TheVariants.{Accepted}
+use Rattle.std.specs.declared.result.Result.TheVariants.{Ok}
 use Rattle.reader.proofs.Laws.{reads_noop, reads, reads_form, number_form}
 
 form_in_alike : (w : ℕ) → (form_in older w ≡ 24 → ⊥) → form_in current w ≡ form_in older w
@@ -40,9 +40,9 @@ reads_alike w h = by (ℕ_discrete w noop_word)
         ∙ ap (λ (k : ℕ). judged (refused_with w k) (spelled_by w)) (form_in_alike w (λ z. h (sym (number_form older w n) ∙ z)))
         ∙ sym (reads_form older w n)
 
-pub reads_alone : (w : ℕ) → number_of (reading_of older w) ≡ 24 → reading_of current w ≡ Accepted (spelled_by w)
+pub reads_alone : (w : ℕ) → number_of (reading_of older w) ≡ 24 → reading_of current w ≡ Ok (spelled_by w)
 reads_alone w h = by (ℕ_discrete w noop_word)
   where
-    by : Dec (w ≡ noop_word) → reading_of current w ≡ Accepted (spelled_by w)
+    by : Dec (w ≡ noop_word) → reading_of current w ≡ Ok (spelled_by w)
     by (yes e) = absurd (omega (arith, h, ap number_of (reads_noop older w e)))
     by (no n) = reads current w n (form_in_alone w (number_form older w n ∙ h))

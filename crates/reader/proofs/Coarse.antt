@@ -16,9 +16,8 @@ use Rattle.instruction.specs.declared.Refusal.{Refusal}
 use Rattle.instruction.specs.declared.Rules.{Rules}
 use Rattle.instruction.proofs.Laws.{form_at}
 use Rattle.reader.specs.Masks.{has_unnamed, coarse_in, coarse_of, finer, judged_by}
-use Rattle.reader.specs.Reading.{no_such_code, has_kind, not_its_op, form_in, highest_stray, refused_with, instruction_in, reading_of}
-use Rattle.reader.specs.declared.Reading.{Reading}
-use Rattle.reader.specs.declared.Reading.TheVariants.{Accepted, Refused}
+use Rattle.reader.specs.Reading.{Reading, no_such_code, has_kind, not_its_op, form_in, highest_stray, refused_with, instruction_in, reading_of}
+use Rattle.std.specs.declared.result.Result.TheVariants.{Ok, Err}
 use Rattle.reader.proofs.Laws.{not_a_wait, form_10, form_12, form_rest, with_named, with_unnamed, reads_noop, reads, refuses}
 use Rattle.reader.proofs.Strays.{kind_range}
 
@@ -121,28 +120,28 @@ module _ (rules : Rules) (w : ℕ) where
 -- ---- of a word
 
 module _ (rules : Rules) (w : ℕ) {n : ℕ} (e : n ≡ coarse_of rules w) where
-  pub coarse_accepts : n ≡ 0 → Accepted (instruction_in w) ≡ reading_of rules w
+  pub coarse_accepts : n ≡ 0 → Ok (instruction_in w) ≡ reading_of rules w
   coarse_accepts z = by (ℕ_discrete w noop_word)
     where
-      by : Dec (w ≡ noop_word) → Accepted (instruction_in w) ≡ reading_of rules w
-      by (yes p) = ap (λ (b : Bool). Accepted (pick b noop (spelled_by w))) (eq-eqb w noop_word p) ∙ sym (reads_noop rules w p)
+      by : Dec (w ≡ noop_word) → Ok (instruction_in w) ≡ reading_of rules w
+      by (yes p) = ap (λ (b : Bool). Ok (pick b noop (spelled_by w))) (eq-eqb w noop_word p) ∙ sym (reads_noop rules w p)
       by (no h) =
           let c : coarse_in rules w ≡ 0 = sym (ap (λ (b : Bool). pick b 0 (coarse_in rules w)) (ne_eqb w noop_word h)) ∙ sym e ∙ z in
-          ap (λ (b : Bool). Accepted (pick b noop (spelled_by w))) (ne_eqb w noop_word h) ∙ sym (reads rules w h (none_coarse rules w c))
+          ap (λ (b : Bool). Ok (pick b noop (spelled_by w))) (ne_eqb w noop_word h) ∙ sym (reads rules w h (none_coarse rules w c))
 
-  pub coarse_refuses : (n ≡ 0 → ⊥) → Refused (finer w n) ≡ reading_of rules w
+  pub coarse_refuses : (n ≡ 0 → ⊥) → Err (finer w n) ≡ reading_of rules w
   coarse_refuses m = by (ℕ_discrete w noop_word)
     where
-      by : Dec (w ≡ noop_word) → Refused (finer w n) ≡ reading_of rules w
+      by : Dec (w ≡ noop_word) → Err (finer w n) ≡ reading_of rules w
       by (yes p) = absurd (m (e ∙ ap (λ (b : Bool). pick b 0 (coarse_in rules w)) (eq-eqb w noop_word p)))
       by (no h) =
           let c : n ≡ coarse_in rules w = e ∙ ap (λ (b : Bool). pick b 0 (coarse_in rules w)) (ne_eqb w noop_word h) in
-          ap (λ (k : ℕ). Refused (finer w k)) c ∙ ap Refused (finer_form rules w) ∙ sym (refuses rules w h (λ z. m (c ∙ coarse_none rules w z)))
+          ap (λ (k : ℕ). Err (finer w k)) c ∙ ap Err (finer_form rules w) ∙ sym (refuses rules w h (λ z. m (c ∙ coarse_none rules w z)))
 
 -- a reading is put together out of its coarse number and its instruction
 pub put_together : (rules : Rules) (w : ℕ) {r : Reading} {n : ℕ} {i : Instruction} → r ≡ judged_by w n i → n ≡ coarse_of rules w → i ≡ instruction_in w → r ≡ reading_of rules w
 put_together rules w {n = n} {i = i} f e g = f ∙ by (ℕ_discrete n 0)
   where
     by : Dec (n ≡ 0) → judged_by w n i ≡ reading_of rules w
-    by (yes z) = ap (λ (b : Bool). pick b (Accepted i) (Refused (finer w n))) (eq-eqb n 0 z) ∙ ap Accepted g ∙ coarse_accepts rules w e z
-    by (no m) = ap (λ (b : Bool). pick b (Accepted i) (Refused (finer w n))) (ne_eqb n 0 m) ∙ coarse_refuses rules w e m
+    by (yes z) = ap (λ (b : Bool). pick b (Ok i) (Err (finer w n))) (eq-eqb n 0 z) ∙ ap Ok g ∙ coarse_accepts rules w e z
+    by (no m) = ap (λ (b : Bool). pick b (Ok i) (Err (finer w n))) (ne_eqb n 0 m) ∙ coarse_refuses rules w e m

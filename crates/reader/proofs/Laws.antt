@@ -20,19 +20,19 @@ use Rattle.instruction.specs.declared.Body.TheVariants.{Waveform}
 use Rattle.instruction.proofs.Laws.{form_at}
 use Rattle.reader.specs.Masks.{has_unnamed}
 use Rattle.reader.specs.Reading.{not_its_op, kind_of, form_in, highest_stray, refused_with, instruction_in, judged, reading_of, refusal_of, number_of}
-use Rattle.reader.specs.declared.Reading.TheVariants.{Accepted, Refused}
+use Rattle.std.specs.declared.result.Result.TheVariants.{Ok, Err}
 use Rattle.reader.proofs.Below.{both}
 use Rattle.reader.proofs.Strays.{kind_told, none_told, kind_tells, stray_none}
 
-pub reads_noop : (rules : Rules) (w : ℕ) → w ≡ noop_word → reading_of rules w ≡ Accepted noop
+pub reads_noop : (rules : Rules) (w : ℕ) → w ≡ noop_word → reading_of rules w ≡ Ok noop
 unfolding reading_of
 reads_noop rules w e = simp (eq-eqb _ _ e)
 
-pub reads : (rules : Rules) (w : ℕ) → (w ≡ noop_word → ⊥) → form_in rules w ≡ 0 → reading_of rules w ≡ Accepted (spelled_by w)
+pub reads : (rules : Rules) (w : ℕ) → (w ≡ noop_word → ⊥) → form_in rules w ≡ 0 → reading_of rules w ≡ Ok (spelled_by w)
 unfolding reading_of
 reads rules w h e = simp (ne_eqb _ _ h, eq-eqb _ _ e)
 
-pub refuses : (rules : Rules) (w : ℕ) → (w ≡ noop_word → ⊥) → (form_in rules w ≡ 0 → ⊥) → reading_of rules w ≡ Refused (refused_with w (form_in rules w))
+pub refuses : (rules : Rules) (w : ℕ) → (w ≡ noop_word → ⊥) → (form_in rules w ≡ 0 → ⊥) → reading_of rules w ≡ Err (refused_with w (form_in rules w))
 unfolding reading_of
 refuses rules w h e = simp (ne_eqb _ _ h, ne_eqb _ _ e)
 
@@ -128,12 +128,12 @@ number_form rules w h = ap (λ (r : Refusal). r.number) (refusal_form rules w h)
 
 -- a word whose number is 0 reads as what it spells, and any other as its refusal
 module _ (rules : Rules) (w : ℕ) where
-  pub reads_instruction : number_of (reading_of rules w) ≡ 0 → Accepted (instruction_in w) ≡ reading_of rules w
+  pub reads_instruction : number_of (reading_of rules w) ≡ 0 → Ok (instruction_in w) ≡ reading_of rules w
   reads_instruction z = by (ℕ_discrete w noop_word)
     where
-      by : Dec (w ≡ noop_word) → Accepted (instruction_in w) ≡ reading_of rules w
-      by (yes e) = ap (λ (b : Bool). Accepted (pick b noop (spelled_by w))) (eq-eqb w noop_word e) ∙ sym (reads_noop rules w e)
-      by (no h) = ap (λ (b : Bool). Accepted (pick b noop (spelled_by w))) (ne_eqb w noop_word h) ∙ sym (reads rules w h (number_form rules w h ∙ z))
+      by : Dec (w ≡ noop_word) → Ok (instruction_in w) ≡ reading_of rules w
+      by (yes e) = ap (λ (b : Bool). Ok (pick b noop (spelled_by w))) (eq-eqb w noop_word e) ∙ sym (reads_noop rules w e)
+      by (no h) = ap (λ (b : Bool). Ok (pick b noop (spelled_by w))) (ne_eqb w noop_word h) ∙ sym (reads rules w h (number_form rules w h ∙ z))
 
 -- ---- by the op code
 
@@ -142,7 +142,7 @@ unfolding reading_of
 reads_form rules w h = rw (ne_eqb _ _ h)
 
 -- a bit that is not named is reason enough
-pub refuses_unnamed : (rules : Rules) (w : ℕ) → (w ≡ noop_word → ⊥) → code_in w < 13 → has_unnamed w ≡ true → reading_of rules w ≡ Refused (refused_with w (form_in rules w))
+pub refuses_unnamed : (rules : Rules) (w : ℕ) → (w ≡ noop_word → ⊥) → code_in w < 13 → has_unnamed w ≡ true → reading_of rules w ≡ Err (refused_with w (form_in rules w))
 refuses_unnamed rules w h l u = refuses rules w h (λ z. true≢false (sym (kind_tells (code_in w) (highest_stray w)) ∙ ap tells_bit (sym (form_unnamed rules w l u) ∙ z)))
 
 -- what is laid out by a known op code, with the number that is given for it

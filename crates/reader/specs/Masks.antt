@@ -9,9 +9,8 @@ use Rattle.instruction.specs.declared.Body.TheVariants.{Waveform, Marker, LoadRe
 use Rattle.instruction.specs.declared.Refusal.{Refusal}
 use Rattle.instruction.specs.declared.Rules.{Rules}
 use Rattle.instruction.specs.declared.Instruction.{Instruction}
-use Rattle.reader.specs.Reading.{some_below, is_stray, no_such_code, kind_of, not_its_op, highest_stray}
-use Rattle.reader.specs.declared.Reading.{Reading}
-use Rattle.reader.specs.declared.Reading.TheVariants.{Accepted, Refused}
+use Rattle.reader.specs.Reading.{Reading, some_below, is_stray, no_such_code, kind_of, not_its_op, highest_stray}
+use Rattle.std.specs.declared.result.Result.TheVariants.{Ok, Err}
 
 -- a bit is set that is not named, of whatever kind
 unfoldable pub has_unnamed : ℕ → Bool
@@ -39,7 +38,7 @@ finer word coarse = pick (eqb coarse coarse_unnamed) (record { number = kind_of 
 
 -- an instruction where it is 0, and else the refusal
 abbrev pub judged_by : ℕ → ℕ → Instruction → Reading
-judged_by word coarse i = pick (eqb coarse 0) (Accepted i) (Refused (finer word coarse))
+judged_by word coarse i = pick (eqb coarse 0) (Ok i) (Err (finer word coarse))
 
 -- what a function knows of a word's op code that judges by it: WAVEFORM
 abbrev pub IsWaveform : ℕ → Type 0

@@ -10,8 +10,8 @@ use Rattle.instruction.specs.declared.Instruction.{Instruction}
 use Rattle.instruction.specs.declared.Refusal.{Refusal}
 use Rattle.instruction.specs.declared.Rules.{Rules}
 use Rattle.instruction.specs.declared.Body.TheVariants.{Wait, Sync}
-use Rattle.reader.specs.declared.Reading.{Reading}
-use Rattle.reader.specs.declared.Reading.TheVariants.{Accepted, Refused}
+use Rattle.std.specs.declared.result.Result.{Result}
+use Rattle.std.specs.declared.result.Result.TheVariants.{Ok, Err}
 
 -- some number below n passes a test
 abbrev pub some_below : ℕ → (ℕ → Bool) → Bool
@@ -84,18 +84,22 @@ refused_with word number = record { number = number; bit = pick (tells_bit numbe
 abbrev pub instruction_in : ℕ → Instruction
 instruction_in word = pick (eqb word noop_word) noop (spelled_by word)
 
+-- a word reads as one instruction, or is refused
+abbrev pub Reading : Type 0
+Reading = Result Instruction Refusal
+
 -- an instruction where the number is 0, and else the refusal, whole
 abbrev pub judged : Refusal → Instruction → Reading
-judged refusal i = pick (eqb refusal.number 0) (Accepted i) (Refused refusal)
+judged refusal i = pick (eqb refusal.number 0) (Ok i) (Err refusal)
 
 -- H2: NOOP is "tested before all else"
 unfoldable pub reading_of : Rules → ℕ → Reading
-reading_of rules word = pick (eqb word noop_word) (Accepted noop) (judged (refused_with word (form_in rules word)) (spelled_by word))
+reading_of rules word = pick (eqb word noop_word) (Ok noop) (judged (refused_with word (form_in rules word)) (spelled_by word))
 
 -- the refusal of a reading; number 0 is accepted
 abbrev pub refusal_of : Reading → Refusal
-refusal_of (Accepted i) = numbered 0
-refusal_of (Refused r) = r
+refusal_of (Ok i) = numbered 0
+refusal_of (Err r) = r
 
 abbrev pub number_of : Reading → ℕ
 number_of reading = (refusal_of reading).number

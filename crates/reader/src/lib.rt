@@ -9,43 +9,25 @@ ghost use Rattle.instruction.specs.Form.{numbered};
 ghost use Rattle.instruction.specs.Word.{spelled_by};
 ghost use Rattle.instruction.specs.declared.Rules.{Rules};
 ghost use Rattle.reader.specs.Masks.{has_unnamed, coarse_in, coarse_of, finer, judged_by, IsWaveform, IsMarker, IsModulator, IsFlow, IsCode};
-ghost use Rattle.reader.specs.Reading.{refusal_of, kind_of, highest_stray, not_its_op, form_in, refused_with, instruction_in, judged, reading_of};
+ghost use Rattle.reader.specs.Reading.{kind_of, highest_stray, not_its_op, form_in, refused_with, instruction_in, judged, reading_of};
 
 use instruction::{
     Body, Comparison, EngineOp, Ignored, Instruction, MarkerFields, ModulatorFields, QuadSamples,
-    Refusal, Repeats, Rules, WaveformFields, WordAddress,
+    Refusal, Repeats, Rules, WaveformFields, WordAddress, told,
 };
 use named::{named_bits, payload_bits};
 
-#[derive(Clone, Copy)]
-pub enum Reading {
-    Accepted(Instruction),
-    Refused(Refusal),
-}
+// What stands for every bit that is not named, until the bit is looked for.
+const UNNAMED: u64 = Refusal::RESERVED_BIT;
 
-impl Reading {
-    // What stands for every bit that is not named, until the bit is looked for.
-    const UNNAMED: u64 = Refusal::RESERVED_BIT;
-
-    // Of a word's coarse number and the instruction that it spells: that, unless the number is not 0.
-    pub fn of(word: u64, coarse: u64, i: Instruction) -> Reading
-        ensures { result ≡ judged_by word coarse i }
-    {
-        if coarse != 0 {
-            return Reading::Refused(finer(word, coarse));
-        }
-        Reading::Accepted(i)
+// Of a word's coarse number and the instruction that it spells: that, unless the number is not 0.
+pub fn judged_by(word: u64, coarse: u64, i: Instruction) -> Result<Instruction, Refusal>
+    ensures { result ≡ judged_by word coarse i }
+{
+    if coarse != 0 {
+        return Err(finer(word, coarse));
     }
-
-    // The refusal; number 0 where the word was accepted.
-    pub fn refusal(self) -> Refusal
-        ensures { result ≡ refusal_of self }
-    {
-        match self {
-            Reading::Accepted(_) => Refusal { number: 0, bit: 0 },
-            Reading::Refused(r) => r,
-        }
-    }
+    Ok(i)
 }
 
 fn has_unnamed(word: u64) -> bool
@@ -95,9 +77,9 @@ fn marker_form(word: u64, rules: Rules) -> u64
     ensures { result ≡ coarse_in rules word }
 {
     if has_unnamed(word) {
-        Reading::UNNAMED
+        UNNAMED
     } else {
-        MarkerFields::spelled_by(word).form(rules)
+        told(MarkerFields::spelled_by(word).form(rules))
     }
 }
 
@@ -107,9 +89,9 @@ fn modulator_form(word: u64) -> u64
     ensures { (rules : Rules) → result ≡ coarse_in rules word }
 {
     if has_unnamed(word) {
-        Reading::UNNAMED
+        UNNAMED
     } else {
-        ModulatorFields::spelled_by(word).form()
+        told(ModulatorFields::spelled_by(word).form())
     }
 }
 
@@ -128,12 +110,12 @@ fn form_in(word: u64, rules: Rules) -> u64
         return Refusal::NO_SUCH_CODE;
     }
     if has_unnamed(word) {
-        return Reading::UNNAMED;
+        return UNNAMED;
     }
     if not_its_op(word) {
         return Refusal::NOT_ITS_OP;
     }
-    Instruction::form_in(word, rules)
+    told(Instruction::form_in(word, rules))
 }
 
 // A play with nothing wrong.
@@ -161,11 +143,7 @@ fn flow_form(word: u64) -> u64
     requires { IsFlow word }
     ensures { (rules : Rules) → result ≡ coarse_in rules word }
 {
-    if has_unnamed(word) {
-        Reading::UNNAMED
-    } else {
-        0
-    }
+    if has_unnamed(word) { UNNAMED } else { 0 }
 }
 
 // The coarse number of a word that is not NOOP; the words that are met most are judged at once, and the others by a call.
@@ -183,6 +161,7 @@ fn form_of(word: u64, rules: Rules) -> u64
 }
 
 // The coarse number of a word, 0 where it is accepted: one for every bit that is not named, so that only a bad word is looked through for its bit.
+// A number and no Result of an enum: measured, the check of a straight sequence is at 1.75 of the second program with that, and at 0.97 without.
 pub fn coarse_of(word: u64, rules: Rules) -> u64
     ensures { result ≡ coarse_of rules word }
 {
@@ -196,7 +175,7 @@ pub fn coarse_of(word: u64, rules: Rules) -> u64
 pub fn finer(word: u64, coarse: u64) -> Refusal
     ensures { result ≡ finer word coarse }
 {
-    if coarse != Reading::UNNAMED {
+    if coarse != UNNAMED {
         return Refusal {
             number: coarse,
             bit: 0,
@@ -224,13 +203,13 @@ pub fn instruction_in(word: u64) -> Instruction
 }
 
 // What a word that is not NOOP and whose bits are named reads as, of its number and the body that it spells.
-fn judge(number: u64, word: u64, body: Body) -> Reading
+fn judge(number: u64, word: u64, body: Body) -> Result<Instruction, Refusal>
     ensures { result ≡ judged (numbered number) (record { engine = held word engine_select; write = held word write_flag; body = body }) }
 {
     if number != 0 {
-        return Reading::Refused(Refusal { number, bit: 0 });
+        return Err(Refusal { number, bit: 0 });
     }
-    Reading::Accepted(Instruction {
+    Ok(Instruction {
         engine: Instruction::engine_in(word),
         write: Instruction::write_in(word),
         body,
@@ -238,18 +217,18 @@ fn judge(number: u64, word: u64, body: Body) -> Reading
 }
 
 // A word whose bits are named, by its op code.
-fn read_named(word: u64, rules: Rules) -> Reading
+fn read_named(word: u64, rules: Rules) -> Result<Instruction, Refusal>
     requires { IsCode word × (has_unnamed word ≡ false) }
     ensures { result ≡ judged (refused_with word (form_in rules word)) (spelled_by word) }
 {
     match Instruction::code_in(word) {
         Body::WAVEFORM => {
             let f = WaveformFields::spelled_by(word);
-            judge(f.form(), word, Body::Waveform(f))
+            judge(told(f.form()), word, Body::Waveform(f))
         }
         Body::MARKER => {
             let f = MarkerFields::spelled_by(word);
-            judge(f.form(rules), word, Body::Marker(f))
+            judge(told(f.form(rules)), word, Body::Marker(f))
         }
         Body::WAIT => judge(form_in(word, rules), word, Body::Wait),
         Body::LOAD_REPEAT => judge(0, word, Body::LoadRepeat(Repeats::spelled_by(word))),
@@ -261,7 +240,7 @@ fn read_named(word: u64, rules: Rules) -> Reading
         Body::SYNC => judge(form_in(word, rules), word, Body::Sync),
         Body::MODULATOR => {
             let f = ModulatorFields::spelled_by(word);
-            judge(f.form(), word, Body::Modulator(f))
+            judge(told(f.form()), word, Body::Modulator(f))
         }
         Body::LOAD_CMP => judge(0, word, Body::LoadCmp(Ignored(0))),
         _ => judge(
@@ -272,25 +251,25 @@ fn read_named(word: u64, rules: Rules) -> Reading
     }
 }
 
-// What a word reads as. A caller that reads many kinds of words in one place puts the reading together instead (`Reading::of`).
-pub fn read(word: u64, rules: Rules) -> Reading
+// What a word reads as. A caller that reads many kinds of words in one place puts the reading together instead (`judged_by`).
+pub fn read(word: u64, rules: Rules) -> Result<Instruction, Refusal>
     ensures { result ≡ reading_of rules word }
 {
     if word == Instruction::NOOP {
-        return Reading::Accepted(Instruction {
+        return Ok(Instruction {
             engine: 0,
             write: 0,
             body: Body::Noop,
         });
     }
     if Body::PREFETCH < Instruction::code_in(word) {
-        return Reading::Refused(Refusal {
+        return Err(Refusal {
             number: Refusal::NO_SUCH_CODE,
             bit: 0,
         });
     }
     if has_unnamed(word) {
-        return Reading::Refused(finer(word, Reading::UNNAMED));
+        return Err(finer(word, UNNAMED));
     }
     read_named(word, rules)
 }

@@ -3,16 +3,16 @@
 #![tactic(auto)]
 
 ghost use Rattle.std.specs.Prelude.{◌≡◌};
-ghost use Rattle.instruction.specs.Form.{numbered};
+ghost use Rattle.instruction.specs.Form.{told, numbered};
+ghost use Rattle.sequence.specs.Numbers.{input_number};
 ghost use Rattle.jumps.specs.State.{fixed_in, fresh};
 ghost use Rattle.jumps.specs.Lent.{state_in, Leaves};
 ghost use Rattle.rehearsal.specs.Run.{run_of, input_refused, rehearse, Rehearsed, CanGo};
 
-use dispatch::Engines;
-use instruction::{QuadSamples, Refusal, Rules};
-use jumps::{Core, Setting, State, Stepped};
+use instruction::{Numbered, QuadSamples, Refusal, Rules};
+use jumps::{Arrays, Core, Halt, Setting, State, Stepped};
 use machine::step;
-use sequence::Sequence;
+use sequence::{BadInput, Sequence};
 
 // How the run ended and why, and the whole state then.
 #[derive(Clone, Copy)]
@@ -22,31 +22,29 @@ pub struct Answer {
 }
 
 impl Answer {
-    pub const BUDGET_SPENT: u64 = 40;
+    pub const BUDGET_SPENT: u64 = Halt::FIRST;
 
     // Zeros beside an input number.
-    fn refused(number: u64) -> Answer
-        ensures { result ≡ record { end = numbered number; state = fresh } }
+    fn refused(bad: BadInput) -> Answer
+        ensures { result ≡ record { end = numbered (input_number bad); state = fresh } }
     {
         Answer {
-            end: Refusal { number, bit: 0 },
+            end: Refusal::numbered(bad.number()),
             state: State::fresh(),
         }
     }
 }
 
-// 1, 2, 3, 5 or 0.
-pub fn input_refused(n: u64, wave: QuadSamples, budget: u64) -> u64
-    ensures { result ≡ input_refused n wave.0 budget }
+// 1, 2, 3 or 5.
+#[tactic(auto, unfolding(crate::specs::Run::input_refused))]
+pub fn input_refused(n: u64, wave: QuadSamples, budget: u64) -> Result<(), BadInput>
+    ensures { told input_number result ≡ input_refused n wave.0 budget }
 {
-    let lengths = Sequence::lengths_refused(n, wave);
-    if lengths != 0 {
-        return lengths;
-    }
+    Sequence::lengths_refused(n, wave)?;
     if Sequence::BUDGET < budget {
-        return Sequence::TOO_MUCH_BUDGET;
+        return Err(BadInput::TooMuchBudget);
     }
-    0
+    Ok(())
 }
 
 // At most so many steps from a state on.
@@ -54,34 +52,27 @@ pub fn run_from(
     words: &[u64],
     messages: &[u8],
     trace: &mut [u64],
-    returns: &mut [u64; Sequence::STACK as usize],
-    counters: &mut [u64; Sequence::STACK as usize],
-    waits: &mut [u64; Engines::COUNT],
-    totals: &mut [u64; Engines::COUNT],
+    arrays: &mut Arrays,
     s: Core,
     budget: u64,
     setting: Setting,
 ) -> Stepped
-    requires { CanGo budget (fixed_in words.now messages.now trace.old setting) (state_in s returns.old counters.old waits.old totals.old) }
+    requires { CanGo budget (fixed_in words.now messages.now trace.old setting) (state_in s arrays.old) }
     ensures { Leaves (run_of budget (fixed_in words.now messages.now trace.old setting)
-        (state_in s returns.old counters.old waits.old totals.old))
-        s.sent trace.old trace.new result returns.new counters.new waits.new totals.new }
+        (state_in s arrays.old))
+        s.sent trace.old trace.new result arrays.new }
 {
     let mut at = s;
-    let mut left = budget;
-    while 0 < left {
-        let r = step(
-            words, messages, trace, returns, counters, waits, totals, at, setting,
-        );
+    for _spent in 0..budget {
+        let r = step(words, messages, trace, arrays, at, setting);
         let end = r.end.number;
         if end != 0 {
             return r;
         }
         let next = r.core;
         at = next;
-        left = left - 1;
     }
-    Stepped::stop(Answer::BUDGET_SPENT, at)
+    Stepped::stop_for(Halt::BudgetSpent, at)
 }
 
 // Steps from the fresh state until one stops or the budget is spent.
@@ -96,32 +87,19 @@ fn from_fresh(
     ensures { Rehearsed (run_of budget (fixed_in words.now messages.now trace.old setting) fresh)
         trace.old trace.new result }
 {
-    let mut returns = [0; Sequence::STACK as usize];
-    let mut counters = [0; Sequence::STACK as usize];
-    let mut waits = [0; Engines::COUNT];
-    let mut totals = [0; Engines::COUNT];
-    let core = Core::fresh();
+    let mut arrays = Arrays::fresh();
     let r = run_from(
         words,
         messages,
         trace,
-        &mut returns,
-        &mut counters,
-        &mut waits,
-        &mut totals,
-        core,
+        &mut arrays,
+        Core::fresh(),
         budget,
         setting,
     );
     let end = r.end;
     let last = r.core;
-    let state = State {
-        core: last,
-        returns,
-        counters,
-        waits,
-        totals,
-    };
+    let state = State::of(last, arrays);
     Answer { end, state }
 }
 
@@ -138,9 +116,8 @@ pub fn run(
     ensures { Rehearsed (rehearse budget (fixed_in words.now messages.now trace.old (record { wave = wave; rules = rules; triggers = triggers })))
         trace.old trace.new result }
 {
-    let refused = input_refused(words.len() as u64, wave, budget);
-    if refused != 0 {
-        return Answer::refused(refused);
+    if let Err(bad) = input_refused(words.len() as u64, wave, budget) {
+        return Answer::refused(bad);
     }
     let setting = Setting {
         wave,

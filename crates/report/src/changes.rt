@@ -1,122 +1,132 @@
 // What changed from one state of a run to another: a line for each number that did, and none for the others.
 // Where the run is and how many steps it took is told beside it.
-use crate::state::{say_condition, say_engine, say_entry};
+use crate::state::{ConditionName, ENGINES, Entry};
 use dispatch::Engines;
-use jumps::{Condition, Core, State};
+use jumps::State;
 use sequence::Sequence;
-use system::System;
-use told::{say, say_number};
+use std::fmt;
 
-fn say_from_to(system: System, before: u64, after: u64) {
-    say(system, b"\t");
-    say_number(system, before);
-    say(system, b" -> ");
-    say_number(system, after);
-    say(system, b"\n");
+// A number by its name, at two times.
+#[derive(Clone, Copy)]
+pub struct Change<'a> {
+    pub name: &'a str,
+    pub before: u64,
+    pub after: u64,
 }
 
-fn say_change(system: System, name: &[u8], before: u64, after: u64) {
-    if before != after {
-        say(system, name);
-        say_from_to(system, before, after);
-    }
+// The counts of all engines, likewise.
+#[derive(Clone, Copy)]
+struct Counted<'a> {
+    name: &'a str,
+    before: &'a [u64; Engines::COUNT],
+    after: &'a [u64; Engines::COUNT],
 }
 
-pub fn say_steps(system: System, before: u64, after: u64) {
-    say_change(system, b"steps", before, after);
+#[derive(Clone, Copy)]
+pub struct Changes<'a> {
+    pub before: &'a State,
+    pub after: &'a State,
 }
 
-fn rank(condition: Condition) -> u64 {
-    match condition {
-        Condition::Absent => 0,
-        Condition::Fails => 1,
-        Condition::Holds => 2,
-    }
-}
-
-fn say_core_changes(system: System, before: Core, after: Core) {
-    say_change(system, b"\tmessages used", before.used, after.used);
-    say_change(system, b"\ttrace length", before.sent, after.sent);
-    say_change(system, b"\trepeat counter", before.counter, after.counter);
-    say_change(system, b"\tregister", before.register, after.register);
-    say_change(system, b"\theld", before.held, after.held);
-    say_change(system, b"\tstack depth", before.depth, after.depth);
-    let was = before.condition;
-    let is = after.condition;
-    if rank(was) != rank(is) {
-        say(system, b"\t");
-        say_condition(system, is);
-    }
-}
-
-// The entry that is on top of the stack, where there is one more than before.
-fn say_pushed(system: System, before: u64, after: State) {
-    let depth = before as usize;
-    let returns = after.returns;
-    let counters = after.counters;
-    if before < after.core.depth {
-        if before < Sequence::STACK {
-            say_entry(system, before, returns[depth], counters[depth]);
+impl fmt::Display for Change<'_> {
+    fn fmt<W: fmt::Write>(&self, f: &mut fmt::Formatter<W>) -> fmt::Result {
+        let Change {
+            name,
+            before,
+            after,
+        } = self;
+        if before == after {
+            return Ok(());
         }
+        writeln!(f, "{name}\t{before} -> {after}")
     }
 }
 
 // Whether the counts are alike, so that one line tells them all.
-fn alike(counts: [u64; Engines::COUNT]) -> bool {
-    let mut i: usize = 0;
-    while i < Engines::COUNT {
-        if counts[i] != counts[0] {
-            return false;
+fn are_alike(counts: &[u64; Engines::COUNT]) -> bool {
+    counts.iter().all(|count| *count == counts[0])
+}
+
+impl fmt::Display for Counted<'_> {
+    fn fmt<W: fmt::Write>(&self, f: &mut fmt::Formatter<W>) -> fmt::Result {
+        let Counted {
+            name,
+            before,
+            after,
+        } = *self;
+        if are_alike(before) && are_alike(after) {
+            if before[0] != after[0] {
+                writeln!(f, "\t{name}, all\t{} -> {}", before[0], after[0])?;
+            }
+            return Ok(());
         }
-        i += 1;
-    }
-    true
-}
-
-fn say_each(
-    system: System,
-    name: &[u8],
-    before: [u64; Engines::COUNT],
-    after: [u64; Engines::COUNT],
-) {
-    let mut i: usize = 0;
-    while i < Engines::COUNT {
-        if before[i] != after[i] {
-            say(system, b"\t");
-            say(system, name);
-            say(system, b", ");
-            say_engine(system, i);
-            say_from_to(system, before[i], after[i]);
+        for (engine, (before, after)) in ENGINES.iter().zip(before.iter().zip(after.iter())) {
+            if before != after {
+                writeln!(f, "\t{name}, {engine}\t{before} -> {after}")?;
+            }
         }
-        i += 1;
+        Ok(())
     }
 }
 
-fn say_counts(
-    system: System,
-    name: &[u8],
-    before: [u64; Engines::COUNT],
-    after: [u64; Engines::COUNT],
-) {
-    if alike(before) & alike(after) & (before[0] != after[0]) {
-        say(system, b"\t");
-        say(system, name);
-        say(system, b", all");
-        say_from_to(system, before[0], after[0]);
-        return;
+impl Changes<'_> {
+    fn fmt_core<W: fmt::Write>(&self, f: &mut fmt::Formatter<W>) -> fmt::Result {
+        let was = self.before.core;
+        let is = self.after.core;
+        let numbers = [
+            ("\tmessages used", was.used, is.used),
+            ("\ttrace length", was.sent, is.sent),
+            ("\trepeat counter", was.counter, is.counter),
+            ("\tregister", was.register, is.register),
+            ("\theld", was.held, is.held),
+            ("\tstack depth", was.depth, is.depth),
+        ];
+        for (name, before, after) in numbers {
+            let change = Change {
+                name,
+                before,
+                after,
+            };
+            write!(f, "{change}")?;
+        }
+        if was.condition != is.condition {
+            writeln!(f, "\tcondition\t{}", ConditionName(is.condition))?;
+        }
+        Ok(())
     }
-    say_each(system, name, before, after);
+
+    // The entry that is on top of the stack, where there is one more than before.
+    fn fmt_pushed<W: fmt::Write>(&self, f: &mut fmt::Formatter<W>) -> fmt::Result {
+        let before = self.before.core.depth;
+        if before < self.after.core.depth && before < Sequence::STACK {
+            let depth = before as usize;
+            let returns = self.after.returns[depth];
+            let counter = self.after.counters[depth];
+            let entry = Entry {
+                depth,
+                returns,
+                counter,
+            };
+            write!(f, "{entry}")?;
+        }
+        Ok(())
+    }
 }
 
-pub fn say_changes(system: System, before: State, after: State) {
-    let was = before.core;
-    let is = after.core;
-    say_core_changes(system, was, is);
-    say_pushed(system, was.depth, after);
-    let waits = before.waits;
-    let waits_now = after.waits;
-    let totals = before.totals;
-    let totals_now = after.totals;
-    say_counts(system, b"trigger waits", waits, waits_now);
-    say_counts(system, b"quad-samples", totals, totals_now);
+impl fmt::Display for Changes<'_> {
+    fn fmt<W: fmt::Write>(&self, f: &mut fmt::Formatter<W>) -> fmt::Result {
+        self.fmt_core(f)?;
+        self.fmt_pushed(f)?;
+        let waits = Counted {
+            name: "trigger waits",
+            before: &self.before.waits,
+            after: &self.after.waits,
+        };
+        let totals = Counted {
+            name: "quad-samples",
+            before: &self.before.totals,
+            after: &self.after.totals,
+        };
+        write!(f, "{waits}{totals}")
+    }
 }

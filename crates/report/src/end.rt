@@ -1,30 +1,50 @@
 // How a run ended: refused, a fault, or an end that is none.
+// The number tells which it is.
 use instruction::Refusal;
-use rehearsal::Answer;
-use sequence::Sequence;
-use system::System;
-use told::{say, say_number};
+use jumps::Halt;
+use sequence::Fault;
+use std::fmt;
+use told::Status;
 
-// Input, or a word; the numbers that tell a bit stand above all others.
-fn is_refused(end: Refusal) -> bool {
-    (end.number < Sequence::PAST_THE_END) | end.tells_bit()
+#[derive(Clone, Copy)]
+pub struct End(pub Refusal);
+
+// What an end is.
+#[derive(Clone, Copy, PartialEq, Eq)]
+enum Kind {
+    Refused,
+    Faulted,
+    Ended,
 }
 
-pub fn say_end(system: System, end: Refusal) {
-    if is_refused(end) {
-        say(system, b"refused: ");
-    } else if end.number < Answer::BUDGET_SPENT {
-        say(system, b"faulted: ");
-    } else {
-        say(system, b"ended: ");
+impl End {
+    // Refused is input, or a word; the numbers that tell a bit stand above all others.
+    fn kind(self) -> Kind {
+        let Refusal { number, .. } = self.0;
+        if number < Fault::FIRST || self.0.tells_bit() {
+            Kind::Refused
+        } else if number < Halt::FIRST {
+            Kind::Faulted
+        } else {
+            Kind::Ended
+        }
     }
-    say_number(system, end.number);
+
+    pub fn status(self) -> Status {
+        match self.kind() {
+            Kind::Refused | Kind::Faulted => Status::Refused,
+            Kind::Ended => Status::Accepted,
+        }
+    }
 }
 
-pub fn status_of(end: Refusal) -> u64 {
-    if is_refused(end) | (end.number < Answer::BUDGET_SPENT) {
-        told::REFUSED
-    } else {
-        told::ACCEPTED
+impl fmt::Display for End {
+    fn fmt<W: fmt::Write>(&self, f: &mut fmt::Formatter<W>) -> fmt::Result {
+        let number = self.0.number;
+        match self.kind() {
+            Kind::Refused => write!(f, "refused: {number}"),
+            Kind::Faulted => write!(f, "faulted: {number}"),
+            Kind::Ended => write!(f, "ended: {number}"),
+        }
     }
 }

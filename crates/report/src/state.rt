@@ -1,88 +1,106 @@
 // All that a run left, by name: a line for each number of its state,
 // with the entries of the stack and the counts of the engines set in.
 use dispatch::Engines;
-use jumps::{Condition, Core, State};
-use sequence::Sequence;
-use system::System;
-use told::{say, say_number, say_pair};
+use jumps::{Condition, State};
+use std::fmt;
 
-pub fn say_condition(system: System, condition: Condition) {
-    match condition {
-        Condition::Absent => say(system, b"condition\tnone\n"),
-        Condition::Fails => say(system, b"condition\tfalse\n"),
-        Condition::Holds => say(system, b"condition\ttrue\n"),
-    }
-}
+// The names of the engines, in the order of their counts.
+pub const ENGINES: [&str; Engines::COUNT] = [
+    "waveform",
+    "marker 0",
+    "marker 1",
+    "marker 2",
+    "marker 3",
+    "modulator",
+];
 
-fn say_core(system: System, core: Core) {
-    say_pair(system, b"address", core.address.0);
-    say_pair(system, b"steps", core.steps);
-    say_pair(system, b"messages used", core.used);
-    say_pair(system, b"trace length", core.sent);
-    say_pair(system, b"repeat counter", core.counter);
-    say_pair(system, b"register", core.register);
-    let condition = core.condition;
-    say_condition(system, condition);
-    say_pair(system, b"held", core.held);
-    say_pair(system, b"stack depth", core.depth);
-}
+#[derive(Clone, Copy)]
+pub struct ConditionName(pub Condition);
 
-pub fn say_engine(system: System, engine: usize) {
-    match engine {
-        0 => say(system, b"waveform"),
-        1 => say(system, b"marker 0"),
-        2 => say(system, b"marker 1"),
-        3 => say(system, b"marker 2"),
-        4 => say(system, b"marker 3"),
-        _ => say(system, b"modulator"),
-    }
+// An entry of the stack, at its depth.
+#[derive(Clone, Copy)]
+pub struct Entry {
+    pub depth: usize,
+    pub returns: u64,
+    pub counter: u64,
 }
 
 // One count for each engine.
-fn say_engines(system: System, counts: [u64; Engines::COUNT]) {
-    let mut i: usize = 0;
-    while i < Engines::COUNT {
-        say(system, b"\t");
-        say_engine(system, i);
-        say_pair(system, b"", counts[i]);
-        i += 1;
+#[derive(Clone, Copy)]
+struct Counts<'a>(&'a [u64; Engines::COUNT]);
+
+// All that a run left.
+#[derive(Clone, Copy)]
+pub struct Left<'a>(pub &'a State);
+
+impl fmt::Display for ConditionName {
+    fn fmt<W: fmt::Write>(&self, f: &mut fmt::Formatter<W>) -> fmt::Result {
+        f.write_str(match self.0 {
+            Condition::Absent => "none",
+            Condition::Fails => "false",
+            Condition::Holds => "true",
+        })
     }
 }
 
-pub fn say_entry(system: System, depth: u64, to: u64, counter: u64) {
-    say(system, b"\tentry ");
-    say_number(system, depth);
-    say(system, b"\treturns to ");
-    say_number(system, to);
-    say_pair(system, b"\tcounter", counter);
+impl fmt::Display for Entry {
+    fn fmt<W: fmt::Write>(&self, f: &mut fmt::Formatter<W>) -> fmt::Result {
+        let Entry {
+            depth,
+            returns,
+            counter,
+        } = self;
+        writeln!(
+            f,
+            "\tentry {depth}\treturns to {returns}\tcounter\t{counter}"
+        )
+    }
 }
 
-fn say_stack(
-    system: System,
-    depth: u64,
-    returns: [u64; Sequence::STACK as usize],
-    counters: [u64; Sequence::STACK as usize],
-) {
-    let mut d: u64 = 0;
-    while d < Sequence::STACK {
-        let i = d as usize;
-        if d < depth {
-            say_entry(system, d, returns[i], counters[i]);
+impl fmt::Display for Counts<'_> {
+    fn fmt<W: fmt::Write>(&self, f: &mut fmt::Formatter<W>) -> fmt::Result {
+        let counts = self.0;
+        for (engine, count) in ENGINES.iter().zip(counts.iter()) {
+            writeln!(f, "\t{engine}\t{count}")?;
         }
-        d += 1;
+        Ok(())
     }
 }
 
-pub fn say_state(system: System, state: State) {
-    let core = state.core;
-    let returns = state.returns;
-    let counters = state.counters;
-    let waits = state.waits;
-    let totals = state.totals;
-    say_core(system, core);
-    say_stack(system, core.depth, returns, counters);
-    say(system, b"trigger waits\n");
-    say_engines(system, waits);
-    say(system, b"quad-samples\n");
-    say_engines(system, totals);
+impl Left<'_> {
+    fn fmt_core<W: fmt::Write>(&self, f: &mut fmt::Formatter<W>) -> fmt::Result {
+        let core = self.0.core;
+        writeln!(f, "address\t{}", core.address.0)?;
+        writeln!(f, "steps\t{}", core.steps)?;
+        writeln!(f, "messages used\t{}", core.used)?;
+        writeln!(f, "trace length\t{}", core.sent)?;
+        writeln!(f, "repeat counter\t{}", core.counter)?;
+        writeln!(f, "register\t{}", core.register)?;
+        writeln!(f, "condition\t{}", ConditionName(core.condition))?;
+        writeln!(f, "held\t{}", core.held)?;
+        writeln!(f, "stack depth\t{}", core.depth)
+    }
+
+    fn fmt_stack<W: fmt::Write>(&self, f: &mut fmt::Formatter<W>) -> fmt::Result {
+        let entries = self.0.returns.iter().zip(self.0.counters.iter());
+        for (depth, (returns, counter)) in entries.enumerate().take(self.0.core.depth as usize) {
+            let entry = Entry {
+                depth,
+                returns: *returns,
+                counter: *counter,
+            };
+            write!(f, "{entry}")?;
+        }
+        Ok(())
+    }
+}
+
+impl fmt::Display for Left<'_> {
+    fn fmt<W: fmt::Write>(&self, f: &mut fmt::Formatter<W>) -> fmt::Result {
+        self.fmt_core(f)?;
+        self.fmt_stack(f)?;
+        let waits = Counts(&self.0.waits);
+        let totals = Counts(&self.0.totals);
+        write!(f, "trigger waits\n{waits}quad-samples\n{totals}")
+    }
 }

@@ -1,158 +1,216 @@
 // Words as lines of the listing.
 // A place is told with the word that stands there, and a long trace is cut.
+use crate::source::Source;
 use instruction::{Refusal, Rules, WordAddress};
 use listing::Listing;
-use system::System;
-use told::{say, say_number, say_pair};
+use std::fmt;
+use std::str::from_utf8;
 
 // The words of a trace that are shown.
 const SHOWN: usize = 40;
 
-fn say_word(system: System, address: u64, word: u64, rules: Rules) {
-    let mut line = [0u8; Listing::LINE];
-    let n = listing::line(address, word, rules, &mut line);
-    if n <= Listing::LINE {
-        say(system, &line[..n]);
-    }
+// A word as its line, at an address.
+#[derive(Clone, Copy)]
+pub struct Line {
+    pub address: u64,
+    pub word: u64,
+    pub rules: Rules,
 }
 
-fn say_words(system: System, words: &[u64], rules: Rules) {
-    let mut a: usize = 0;
-    while a < words.len() {
-        say_word(system, a as u64, words[a], rules);
-        a += 1;
-    }
+// The lines of words from address 0 on.
+#[derive(Clone, Copy)]
+struct Lines<'a> {
+    words: &'a [u64],
+    rules: Rules,
 }
 
-// The listing of no words is its header, whatever the rules.
-fn say_header(system: System) {
-    let mut header = [0u8; Listing::LINE];
-    let n = listing::list(b"", Rules::CURRENT, &mut header);
-    if n <= Listing::LINE {
-        say(system, &header[..n]);
-    }
-}
-
-pub fn say_listing(system: System, words: &[u64], rules: Rules) {
-    say_header(system);
-    say_words(system, words, rules);
-}
-
-// The line of the word at an address, where a listing had the words: one for each, and the one behind the last.
-pub fn line_of(lines: &[u64], address: u64) -> u64 {
-    let a = address as usize;
-    if lines.len() <= a {
-        return 0;
-    }
-    lines[a]
-}
-
-// Where the words came from a listing, its line, too.
-fn say_line_of(system: System, address: u64, before: &[u8], lines: &[u64]) {
-    if lines.len() != 0 {
-        say(system, before);
-        say(system, b"line ");
-        say_number(system, line_of(lines, address));
-    }
-    say(system, b"\n");
-}
-
-// A word past the last is told with the last.
-fn say_past(system: System, words: &[u64], lines: &[u64], rules: Rules) {
-    say(system, b", past the last, which is");
-    if words.len() != 0 {
-        let last = words.len() - 1;
-        say_line_of(system, last as u64, b" ", lines);
-        say_word(system, last as u64, words[last], rules);
-    }
+#[derive(Clone, Copy)]
+pub struct WholeListing<'a> {
+    pub words: &'a [u64],
+    pub rules: Rules,
 }
 
 // The word at an address, or that there is none.
-pub fn say_word_at(system: System, words: &[u64], place: WordAddress, rules: Rules) {
-    let at = place.0 as usize;
-    if words.len() <= at {
-        say(system, b"past the last word\n");
-        return;
-    }
-    say_word(system, place.0, words[at], rules);
+#[derive(Clone, Copy)]
+pub struct WordAt<'a> {
+    pub words: &'a [u64],
+    pub place: WordAddress,
+    pub rules: Rules,
 }
 
 // The bit, where the number tells one.
-pub fn say_bit(system: System, refusal: Refusal) {
-    if refusal.tells_bit() {
-        say(system, b", bit ");
-        say_number(system, refusal.bit);
-    }
-}
+#[derive(Clone, Copy)]
+pub struct Bit(pub Refusal);
 
 // Where a refusal is, its bit, and the listing's line of the word there.
-pub fn say_place(
-    system: System,
-    words: &[u64],
-    lines: &[u64],
-    refusal: Refusal,
-    place: WordAddress,
-    rules: Rules,
-) {
-    if words.len() == 0 {
-        say(system, b"\n");
-        return;
-    }
-    say(system, b" at word ");
-    say_number(system, place.0);
-    say_bit(system, refusal);
-    let at = place.0 as usize;
-    if words.len() <= at {
-        say_past(system, words, lines, rules);
-        return;
-    }
-    say_line_of(system, place.0, b", ", lines);
-    say_word(system, place.0, words[at], rules);
-}
-
-// A byte of a line as a person can see it: what is no printing ASCII goes by its number, but a tab.
-fn say_byte(system: System, b: u8) {
-    if (b' ' <= b) & (b < 0x7f) | (b == b'\t') {
-        say(system, &[b]);
-        return;
-    }
-    say(system, b"\\x");
-    system.say_hexadecimal(b as u64, 2);
+#[derive(Clone, Copy)]
+pub struct Place<'a> {
+    pub source: Source<'a>,
+    pub refusal: Refusal,
+    pub place: WordAddress,
+    pub rules: Rules,
 }
 
 // A line of a text, as it was typed.
-pub fn say_typed(system: System, line: &[u8]) {
-    let mut i: usize = 0;
-    while i < line.len() {
-        say_byte(system, line[i]);
-        i += 1;
-    }
-    say(system, b"\n");
-}
+#[derive(Clone, Copy)]
+pub struct Typed<'a>(pub &'a [u8]);
 
 // Words as text: sixteen hexadecimal digits, a line each.
-pub fn say_hexadecimal(system: System, words: &[u64]) {
-    let mut i: usize = 0;
-    while i < words.len() {
-        system.say_hexadecimal(words[i], 16);
-        say(system, b"\n");
-        i += 1;
-    }
-}
-
-fn say_rest(system: System, n: usize) {
-    say(system, b"and ");
-    say_number(system, n as u64);
-    say(system, b" words more; --trace FILE writes all of them\n");
-}
+#[derive(Clone, Copy)]
+pub struct Hexadecimal<'a>(pub &'a [u64]);
 
 // The trace as listing lines, cut with a count of the rest.
-pub fn say_trace(system: System, trace: &[u64], rules: Rules) {
-    say_pair(system, b"trace", trace.len() as u64);
-    if trace.len() <= SHOWN {
-        say_words(system, trace, rules);
-        return;
+#[derive(Clone, Copy)]
+pub struct Trace<'a> {
+    pub words: &'a [u64],
+    pub rules: Rules,
+}
+
+// What the listing laid at the start of a buffer.
+fn laid(buffer: &[u8], n: usize) -> &str {
+    match buffer.get(..n) {
+        Some(text) => from_utf8(text).unwrap_or(""),
+        None => "",
     }
-    say_words(system, &trace[..SHOWN], rules);
-    say_rest(system, trace.len() - SHOWN);
+}
+
+impl Line {
+    // The line with its line feed, in a buffer that is lent.
+    pub fn text<'a>(&self, buffer: &'a mut [u8]) -> &'a str {
+        let n = listing::line(self.address, self.word, self.rules, buffer);
+        laid(buffer, n)
+    }
+}
+
+impl fmt::Display for Line {
+    fn fmt<W: fmt::Write>(&self, f: &mut fmt::Formatter<W>) -> fmt::Result {
+        let mut buffer = [0u8; Listing::LINE];
+        f.write_str(self.text(&mut buffer))
+    }
+}
+
+impl fmt::Display for Lines<'_> {
+    fn fmt<W: fmt::Write>(&self, f: &mut fmt::Formatter<W>) -> fmt::Result {
+        for (address, word) in self.words.iter().enumerate() {
+            let line = Line {
+                address: address as u64,
+                word: *word,
+                rules: self.rules,
+            };
+            write!(f, "{line}")?;
+        }
+        Ok(())
+    }
+}
+
+impl fmt::Display for WholeListing<'_> {
+    // The listing of no words is its header, whatever the rules.
+    fn fmt<W: fmt::Write>(&self, f: &mut fmt::Formatter<W>) -> fmt::Result {
+        let mut header = [0u8; Listing::LINE];
+        let n = listing::list(b"", Rules::CURRENT, &mut header);
+        f.write_str(laid(&header, n))?;
+        let lines = Lines {
+            words: self.words,
+            rules: self.rules,
+        };
+        write!(f, "{lines}")
+    }
+}
+
+impl fmt::Display for WordAt<'_> {
+    fn fmt<W: fmt::Write>(&self, f: &mut fmt::Formatter<W>) -> fmt::Result {
+        match self.words.get(self.place.0 as usize) {
+            None => writeln!(f, "past the last word"),
+            Some(word) => {
+                let line = Line {
+                    address: self.place.0,
+                    word: *word,
+                    rules: self.rules,
+                };
+                write!(f, "{line}")
+            }
+        }
+    }
+}
+
+impl fmt::Display for Bit {
+    fn fmt<W: fmt::Write>(&self, f: &mut fmt::Formatter<W>) -> fmt::Result {
+        if self.0.tells_bit() {
+            write!(f, ", bit {}", self.0.bit)?;
+        }
+        Ok(())
+    }
+}
+
+impl Place<'_> {
+    // A word at the end of a line that has told its place; where it came from a listing, its line, too.
+    fn fmt_word<W: fmt::Write>(
+        &self,
+        f: &mut fmt::Formatter<W>,
+        place: WordAddress,
+        before: &str,
+    ) -> fmt::Result {
+        if let Some(line) = self.source.line_of(place) {
+            write!(f, "{before}line {line}")?;
+        }
+        let word = WordAt {
+            words: self.source.words,
+            place,
+            rules: self.rules,
+        };
+        write!(f, "\n{word}")
+    }
+}
+
+impl fmt::Display for Place<'_> {
+    // A word past the last is told with the last.
+    fn fmt<W: fmt::Write>(&self, f: &mut fmt::Formatter<W>) -> fmt::Result {
+        let n = self.source.words.len() as u64;
+        if n == 0 {
+            return writeln!(f, "");
+        }
+        write!(f, " at word {}{}", self.place.0, Bit(self.refusal))?;
+        if self.place.0 < n {
+            return self.fmt_word(f, self.place, ", ");
+        }
+        write!(f, ", past the last, which is")?;
+        self.fmt_word(f, WordAddress(n - 1), " ")
+    }
+}
+
+impl fmt::Display for Typed<'_> {
+    // What is no printing ASCII goes by its number, but a tab.
+    fn fmt<W: fmt::Write>(&self, f: &mut fmt::Formatter<W>) -> fmt::Result {
+        for byte in self.0 {
+            match byte {
+                b' '..=b'~' | b'\t' => f.write_char(*byte as char)?,
+                _ => write!(f, "\\x{byte:02x}")?,
+            }
+        }
+        writeln!(f, "")
+    }
+}
+
+impl fmt::Display for Hexadecimal<'_> {
+    fn fmt<W: fmt::Write>(&self, f: &mut fmt::Formatter<W>) -> fmt::Result {
+        for word in self.0 {
+            writeln!(f, "{word:016x}")?;
+        }
+        Ok(())
+    }
+}
+
+impl fmt::Display for Trace<'_> {
+    fn fmt<W: fmt::Write>(&self, f: &mut fmt::Formatter<W>) -> fmt::Result {
+        let Trace { words, rules } = *self;
+        let n = words.len();
+        let words = words.get(..SHOWN).unwrap_or(words);
+        let lines = Lines { words, rules };
+        write!(f, "trace\t{n}\n{lines}")?;
+        if SHOWN < n {
+            let rest = n - SHOWN;
+            writeln!(f, "and {rest} words more; --trace FILE writes all of them")?;
+        }
+        Ok(())
+    }
 }

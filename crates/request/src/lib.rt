@@ -3,3 +3,6 @@
 #![tactic(auto)]
 
 pub mod asked;
+pub mod command;
+mod draft;
+mod option;

@@ -13,6 +13,15 @@ use Rattle.instruction.specs.declared.ModulatorFields.{ModulatorFields}
 use Rattle.instruction.specs.declared.Body.{Body}
 use Rattle.instruction.specs.declared.Body.TheVariants.{Waveform, Marker, Wait, LoadRepeat, Repeat, Cmp, Goto, Call, Return, Sync, Modulator, LoadCmp, Prefetch, Noop}
 use Rattle.instruction.specs.Bits.{pick}
+use Rattle.std.specs.Result.{is_ok}
+use Rattle.std.specs.declared.result.Result.{Result}
+use Rattle.std.specs.declared.result.Result.TheVariants.{Ok, Err}
+use Rattle.instruction.specs.Form.{told}
+use Rattle.sequence.specs.Numbers.{input_number, place_number}
+use Rattle.sequence.specs.declared.BadInput.{BadInput}
+use Rattle.sequence.specs.declared.BadInput.TheVariants.{NoWords, TooManyWords, TooMuchWave, ShortMarks, TooMuchBudget}
+use Rattle.sequence.specs.declared.Misplaced.{Misplaced}
+use Rattle.sequence.specs.declared.Misplaced.TheVariants.{OutOfWave, OutOfWords, BrokenGroup}
 use Rattle.sequence.specs.Placing.{on_engine, out_of_wave, out_of_words, placing_of}
 
 -- a sum is past a bound where its second part is more than is left of it
@@ -76,3 +85,24 @@ wave_plain wave f e =
 
 pub wave_other : (wave : ℕ) (f : WaveformFields) → (eqb f.op 0 && eqb f.ta 0) ≡ false → ((eqb f.op 0 || eqb f.op 3) && not (ltb f.address.0 wave)) ≡ out_of_wave wave f
 wave_other wave f e = other (eqb f.op 0) (eqb f.ta 0) (eqb f.op 3) (not (leb (f.address.0 + f.count.0) wave)) (not (ltb f.address.0 wave)) e
+
+-- ---- no number is 0, which refuses nothing
+
+pub input_some : (bad : BadInput) → input_number bad ≡ 0 → ⊥
+input_some NoWords e = omega (arith, e)
+input_some TooManyWords e = omega (arith, e)
+input_some TooMuchWave e = omega (arith, e)
+input_some ShortMarks e = omega (arith, e)
+input_some TooMuchBudget e = omega (arith, e)
+
+pub place_some : (bad : Misplaced) → place_number bad ≡ 0 → ⊥
+place_some OutOfWave e = omega (arith, e)
+place_some OutOfWords e = omega (arith, e)
+place_some BrokenGroup e = omega (arith, e)
+
+-- what is placed has no number
+pub place_none : (placing : Result (Unit {0}) Misplaced) → is_ok placing ≡ eqb (told place_number placing) 0
+place_none (Ok u) = refl
+place_none (Err OutOfWave) = refl
+place_none (Err OutOfWords) = refl
+place_none (Err BrokenGroup) = refl

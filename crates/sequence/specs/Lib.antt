@@ -1,2 +1,3 @@
 pub mod Bounds
 pub mod Placing
+pub mod Numbers

@@ -3,10 +3,95 @@
 #![tactic(auto)]
 
 ghost use Rattle.std.specs.Prelude.{◌≡◌, not, ◌+◌, leb};
+ghost use Rattle.instruction.specs.Form.{told};
+ghost use Rattle.sequence.specs.Numbers.{input_number, input_numbered, input_told_apart, place_number, place_numbered, place_told_apart, fault_number, fault_numbered, fault_told_apart};
 ghost use Rattle.sequence.specs.Bounds.{lengths_refused};
 ghost use Rattle.sequence.specs.Placing.{is_engine, out_of_wave, placing_of};
 
-use instruction::{Body, EngineOp, QuadSamples, WaveformFields, WordAddress};
+use instruction::{Body, EngineOp, Numbered, QuadSamples, WaveformFields, WordAddress};
+
+// What an input is refused for before a word is read.
+#[derive(Clone, Copy, PartialEq, Eq)]
+pub enum BadInput {
+    NoWords,
+    TooManyWords,
+    TooMuchWave,
+    // Of a check.
+    ShortMarks,
+    // Of a run.
+    TooMuchBudget,
+}
+
+impl Numbered for BadInput {
+    ghost number_of = { input_number };
+
+    ghost numbered = { input_numbered };
+
+    ghost told_apart = { input_told_apart };
+
+    fn number(self) -> u64 {
+        match self {
+            BadInput::NoWords => 1,
+            BadInput::TooManyWords => 2,
+            BadInput::TooMuchWave => 3,
+            BadInput::ShortMarks => 4,
+            BadInput::TooMuchBudget => 5,
+        }
+    }
+}
+
+// What a word that has its form is refused for where it stands.
+#[derive(Clone, Copy, PartialEq, Eq)]
+pub enum Misplaced {
+    OutOfWave,
+    OutOfWords,
+    BrokenGroup,
+}
+
+impl Numbered for Misplaced {
+    ghost number_of = { place_number };
+
+    ghost numbered = { place_numbered };
+
+    ghost told_apart = { place_told_apart };
+
+    fn number(self) -> u64 {
+        match self {
+            Misplaced::OutOfWave => 20,
+            Misplaced::OutOfWords => 21,
+            Misplaced::BrokenGroup => 22,
+        }
+    }
+}
+
+// What the flow of a sequence comes to that has no next word.
+#[derive(Clone, Copy, PartialEq, Eq)]
+pub enum Fault {
+    PastTheEnd,
+    StackFull,
+    StackEmpty,
+}
+
+impl Fault {
+    // No number of a fault is lower.
+    pub const FIRST: u64 = 30;
+}
+
+impl Numbered for Fault {
+    ghost number_of = { fault_number };
+
+    ghost numbered = { fault_numbered };
+
+    ghost told_apart = { fault_told_apart };
+
+    fn number(self) -> u64 {
+        match self {
+            Fault::PastTheEnd => Fault::FIRST,
+            Fault::StackFull => 31,
+            Fault::StackEmpty => 32,
+        }
+    }
+}
 
 #[derive(Clone, Copy)]
 pub struct Sequence;
@@ -26,43 +111,20 @@ impl Sequence {
     // Words of a group.
     pub const GROUP: u64 = 8;
 
-    pub const NO_WORDS: u64 = 1;
-
-    pub const TOO_MANY_WORDS: u64 = 2;
-
-    pub const TOO_MUCH_WAVE: u64 = 3;
-
-    pub const SHORT_MARKS: u64 = 4;
-
-    pub const TOO_MUCH_BUDGET: u64 = 5;
-
-    pub const OUT_OF_WAVE: u64 = 20;
-
-    pub const OUT_OF_WORDS: u64 = 21;
-
-    pub const BROKEN_GROUP: u64 = 22;
-
-    // Flow.
-    pub const PAST_THE_END: u64 = 30;
-
-    pub const STACK_FULL: u64 = 31;
-
-    pub const STACK_EMPTY: u64 = 32;
-
-    // 1, 2, 3 or 0, for n words and a waveform memory.
-    pub fn lengths_refused(n: u64, wave: QuadSamples) -> u64
-        ensures { result ≡ lengths_refused n wave.0 }
+    // 1, 2 or 3, for n words and a waveform memory.
+    pub fn lengths_refused(n: u64, wave: QuadSamples) -> Result<(), BadInput>
+        ensures { told input_number result ≡ lengths_refused n wave.0 }
     {
         if n == 0 {
-            return Sequence::NO_WORDS;
+            return Err(BadInput::NoWords);
         }
         if Sequence::WORDS < n {
-            return Sequence::TOO_MANY_WORDS;
+            return Err(BadInput::TooManyWords);
         }
         if Sequence::WAVE.0 < wave.0 {
-            return Sequence::TOO_MUCH_WAVE;
+            return Err(BadInput::TooMuchWave);
         }
-        0
+        Ok(())
     }
 
     pub fn is_engine(body: Body) -> bool
@@ -108,42 +170,46 @@ impl Sequence {
         ((op == EngineOp::PLAY) | (op == EngineOp::PREFETCH)) & !(address.0 < wave.0)
     }
 
-    fn waveform_placing(wave: QuadSamples, f: WaveformFields) -> u64
-        ensures { result ≡ placing_of wave.0 0 (Body.Waveform f) }
+    fn waveform_placing(wave: QuadSamples, f: WaveformFields) -> Result<(), Misplaced>
+        ensures { told place_number result ≡ placing_of wave.0 0 (Body.Waveform f) }
     {
         if Sequence::out_of_wave(wave, f) {
-            Sequence::OUT_OF_WAVE
+            Err(Misplaced::OutOfWave)
         } else {
-            0
+            Ok(())
         }
     }
 
-    fn target_placing(n: u64, a: WordAddress) -> u64
-        ensures { result ≡ placing_of 0 n (Body.Goto a) }
+    fn target_placing(n: u64, a: WordAddress) -> Result<(), Misplaced>
+        ensures { told place_number result ≡ placing_of 0 n (Body.Goto a) }
     {
         let to = a.0;
-        if n <= to { Sequence::OUT_OF_WORDS } else { 0 }
+        if n <= to {
+            Err(Misplaced::OutOfWords)
+        } else {
+            Ok(())
+        }
     }
 
-    // 20, 21 or 0, with a waveform memory and n words.
-    pub fn placing(wave: QuadSamples, n: u64, body: Body) -> u64
-        ensures { result ≡ placing_of wave.0 n body }
+    // 20 or 21, with a waveform memory and n words.
+    pub fn placing(wave: QuadSamples, n: u64, body: Body) -> Result<(), Misplaced>
+        ensures { told place_number result ≡ placing_of wave.0 n body }
     {
         match body {
             Body::Waveform(f) => Sequence::waveform_placing(wave, f),
-            Body::Marker(_) => 0,
-            Body::Wait => 0,
-            Body::LoadRepeat(_) => 0,
+            Body::Marker(_) => Ok(()),
+            Body::Wait => Ok(()),
+            Body::LoadRepeat(_) => Ok(()),
             Body::Repeat(a) => Sequence::target_placing(n, a),
-            Body::Cmp(_) => 0,
+            Body::Cmp(_) => Ok(()),
             Body::Goto(a) => Sequence::target_placing(n, a),
             Body::Call(a) => Sequence::target_placing(n, a),
-            Body::Return(_) => 0,
-            Body::Sync => 0,
-            Body::Modulator(_) => 0,
-            Body::LoadCmp(_) => 0,
+            Body::Return(_) => Ok(()),
+            Body::Sync => Ok(()),
+            Body::Modulator(_) => Ok(()),
+            Body::LoadCmp(_) => Ok(()),
             Body::Prefetch(a) => Sequence::target_placing(n, a),
-            Body::Noop => 0,
+            Body::Noop => Ok(()),
         }
     }
 }

@@ -2,12 +2,11 @@
 // Which number stands where is said once, for the answer of a run and for the state of one that pauses.
 #![tactic(auto)]
 
-ghost use Rattle.std.specs.Prelude.{◌≡◌};
+ghost use Rattle.std.specs.Prelude.{◌≡◌, ◌+◌, ◌≤◌};
 ghost use Rattle.buffer.specs.Put.{Fits, Put};
-ghost use Rattle.sequence.specs.Bounds.{stack_depth};
-ghost use Rattle.dispatch.specs.Engines.{engine_count};
 ghost use Rattle.state_c.specs.Numbers.{condition_of, numbers_of, held_numbers, numbers_at, condition_in, held_with, held_in};
 
+use buffer::lay;
 use dispatch::Engines;
 use instruction::WordAddress;
 use jumps::{Condition, Core, State};
@@ -29,6 +28,7 @@ impl Numbers {
     pub const CONDITIONS: u64 = 3;
 }
 
+// No `From` and no `TryFrom`: neither type is of this crate, and what C holds is no business of the crate that has the condition.
 fn condition_of(c: Condition) -> u64
     ensures { result ≡ condition_of c }
 {
@@ -42,26 +42,11 @@ fn condition_of(c: Condition) -> u64
 fn condition_in(number: u64) -> Condition
     ensures { result ≡ condition_in number }
 {
-    if number == 0 {
-        return Condition::Absent;
+    match number {
+        0 => Condition::Absent,
+        1 => Condition::Fails,
+        _ => Condition::Holds,
     }
-    if number == 1 {
-        return Condition::Fails;
-    }
-    Condition::Holds
-}
-
-// A part, from a place on; the place behind it.
-pub fn lay(out: &mut [u64], at: usize, part: &[u64]) -> usize
-    requires { Fits part.now out.old at }
-    ensures { Put part.now out.old at out.new result }
-{
-    let mut i: usize = 0;
-    while i < part.len() {
-        out[at + i] = part[i];
-        i += 1;
-    }
-    at + i
 }
 
 // The numbers of a state, from a place on; the place behind them.
@@ -98,71 +83,14 @@ pub fn held_numbers(p: Paused) -> [u64; Numbers::HELD]
     out
 }
 
-fn waits_in(numbers: &[u64; Numbers::HELD]) -> [u64; Engines::COUNT]
-    ensures { result ≡ numbers_at 4 engine_count numbers.now }
+// So many of the numbers, from a place on.
+fn numbers_at<const N: usize>(numbers: &[u64; Numbers::HELD], from: usize) -> [u64; N]
+    requires { from + N ≤ Numbers.HELD }
+    ensures { result ≡ numbers_at from N numbers.now }
 {
-    [
-        numbers[4], numbers[5], numbers[6], numbers[7], numbers[8], numbers[9],
-    ]
-}
-
-fn totals_in(numbers: &[u64; Numbers::HELD]) -> [u64; Engines::COUNT]
-    ensures { result ≡ numbers_at 10 engine_count numbers.now }
-{
-    [
-        numbers[10],
-        numbers[11],
-        numbers[12],
-        numbers[13],
-        numbers[14],
-        numbers[15],
-    ]
-}
-
-fn returns_in(numbers: &[u64; Numbers::HELD]) -> [u64; Sequence::STACK as usize]
-    ensures { result ≡ numbers_at 21 stack_depth numbers.now }
-{
-    [
-        numbers[21],
-        numbers[22],
-        numbers[23],
-        numbers[24],
-        numbers[25],
-        numbers[26],
-        numbers[27],
-        numbers[28],
-        numbers[29],
-        numbers[30],
-        numbers[31],
-        numbers[32],
-        numbers[33],
-        numbers[34],
-        numbers[35],
-        numbers[36],
-    ]
-}
-
-fn counters_in(numbers: &[u64; Numbers::HELD]) -> [u64; Sequence::STACK as usize]
-    ensures { result ≡ numbers_at 37 stack_depth numbers.now }
-{
-    [
-        numbers[37],
-        numbers[38],
-        numbers[39],
-        numbers[40],
-        numbers[41],
-        numbers[42],
-        numbers[43],
-        numbers[44],
-        numbers[45],
-        numbers[46],
-        numbers[47],
-        numbers[48],
-        numbers[49],
-        numbers[50],
-        numbers[51],
-        numbers[52],
-    ]
+    let mut part = [0u64; N];
+    part.copy_from_slice(&numbers[from..from + N]);
+    part
 }
 
 // What numbers stand for that a host holds, with this condition.
@@ -182,10 +110,10 @@ fn held_with(condition: Condition, numbers: &[u64; Numbers::HELD]) -> Paused
     };
     let state = State {
         core,
-        returns: returns_in(numbers),
-        counters: counters_in(numbers),
-        waits: waits_in(numbers),
-        totals: totals_in(numbers),
+        returns: numbers_at(numbers, 21),
+        counters: numbers_at(numbers, 37),
+        waits: numbers_at(numbers, 4),
+        totals: numbers_at(numbers, 10),
     };
     Paused {
         state,

@@ -1,4 +1,5 @@
 // The arguments of the program; 0 is its own name.
+// Each is laid at the start of a buffer that is lent for it.
 ghost use Rattle.std.specs.Prelude.{◌≤◌, length, IfSome};
 
 use crate::System;
@@ -6,23 +7,23 @@ use std::env::FillError;
 use std::rt::Env;
 
 impl System {
-    // The argument, laid at the start of a buffer, and how long it is; none where there is no such argument or it does not fit.
-    pub fn argument(self, i: usize, buffer: &mut [u8]) -> Option<usize>
-        ensures { IfSome result (λ n. n ≤ length buffer.new) }
+    // The argument; none where there is no such argument or it does not fit.
+    pub fn argument(self, i: usize, buffer: &mut [u8]) -> Option<&[u8]>
+        ensures { IfSome result (λ text. length text.now ≤ length buffer.old) }
     {
         match self.host.arg(i, buffer) {
-            Ok(n) => Some(n),
+            Ok(n) => Some(&buffer[..n]),
             Err(_) => None,
         }
     }
 
     // The same, where one that is none is as an empty one.
-    pub fn name(self, i: usize, buffer: &mut [u8]) -> usize
-        ensures { result ≤ length buffer.new }
+    pub fn name(self, i: usize, buffer: &mut [u8]) -> &[u8]
+        ensures { length result.now ≤ length buffer.old }
     {
         match self.argument(i, buffer) {
-            Some(n) => n,
-            None => 0,
+            Some(text) => text,
+            None => b"",
         }
     }
 
@@ -36,11 +37,8 @@ impl System {
 
     // How many arguments there are.
     pub fn argument_count(self) -> usize {
-        for i in 0..usize::MAX {
-            if !self.has_argument(i) {
-                return i;
-            }
-        }
-        usize::MAX
+        (0..usize::MAX)
+            .take_while(|&i| self.has_argument(i))
+            .count()
     }
 }

@@ -9,10 +9,7 @@ use std::{fs, io};
 const NO_TEXT: i32 = 84;
 
 fn path(name: &[u8]) -> io::Result<&str> {
-    match from_utf8(name) {
-        Ok(text) => Ok(text),
-        Err(_) => Err(Error::from_raw_os_error(NO_TEXT)),
-    }
+    from_utf8(name).map_err(|_| Error::from_raw_os_error(NO_TEXT))
 }
 
 // For reading.

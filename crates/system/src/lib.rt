@@ -4,13 +4,17 @@
 
 mod argument;
 mod file;
+mod input;
 mod text;
 
 ghost use Rattle.std.specs.Prelude.{◌≤◌, length, IfOk};
 
 pub use file::{create, open, remove, rename};
+pub use input::{Input, fill};
+use std::fmt::Display;
 use std::io::{IsTerminal, Read, Result};
 use std::rt::{HostRuntime, Stdin};
+pub use text::Reason;
 
 // The system, as `main` is given it; it has no size.
 #[derive(Clone, Copy)]
@@ -23,27 +27,32 @@ impl System {
         System { host }
     }
 
-    // What goes to standard output. What cannot be written is lost, and nothing follows from it.
-    pub fn say(self, text: &[u8]) {
-        let _ = self.host.write_all(text);
+    // Text to standard output, as `print!(system; ..)` formats it. What cannot be written is lost, and nothing follows from it.
+    pub fn print(self, text: impl Display + Drop) {
+        let _ = self.host.print(text);
     }
 
-    pub fn say_number(self, n: u64) {
-        let _ = self.host.print(n);
+    // The same and the end of a line, for `println!`.
+    pub fn println(self, text: impl Display + Drop) {
+        let _ = self.host.println(text);
     }
 
-    // So many hexadecimal digits, or more where the number has more.
-    pub fn say_hexadecimal(self, n: u64, width: usize) {
-        let _ = print!(self.host; "{n:0width$x}");
+    // Bytes that need not be text, as those of a name.
+    pub fn print_bytes(self, bytes: &[u8]) {
+        let _ = self.host.write_all(bytes);
     }
 
     // What goes to standard error, likewise.
-    pub fn complain(self, text: &[u8]) {
-        let _ = self.host.stderr().write_all(text);
+    pub fn eprint(self, text: impl Display + Drop) {
+        let _ = self.host.eprint(text);
     }
 
-    pub fn complain_number(self, n: u64) {
-        let _ = self.host.stderr().print(n);
+    pub fn eprintln(self, text: impl Display + Drop) {
+        let _ = self.host.eprintln(text);
+    }
+
+    pub fn eprint_bytes(self, bytes: &[u8]) {
+        let _ = self.host.stderr().write_all(bytes);
     }
 
     // Standard input. Each read takes what has come, and no more.

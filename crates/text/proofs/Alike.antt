@@ -1,15 +1,16 @@
 -- Laws of two texts that are the same.
 -- Assumes nothing.
-use Prim.Native.Nat.{ℕ, zero, suc, ◌+◌, ◌-◌, ◌≤◌, ◌<◌}
+use Prim.Native.Nat.{ℕ, zero, suc, ◌-◌, ◌≤◌}
 use mathlib.Core.Path.{◌≡◌, refl, sym, ap, ap₂, ◌∙◌}
 use mathlib.Core.Bool.{Bool, true, false, ◌&&◌}
 use mathlib.Core.List.{List, [], ◌∷◌, ◌++◌}
 use native.Mathlib.Omega.{arith}
-use native.Mathlib.Numerals.{add-one}
 use borrow.Author.Tests.{eq-eqb, ne_eqb, eqb-true}
 use lib.Dec.{eqb}
-use lib.ListN.{length, take, drop, get_or, length-drop}
-use lib.Seq.{drop-cons}
+use lib.Pointwise.{pointwise}
+use native.Mathlib.Decide.{ℕ_discrete}
+use lib.ListN.{length, take, drop, length-drop}
+use lib.Seq.{take_all}
 use Rattle.text.specs.Cut.{same_text, starts_with}
 
 pub ended : (text : List ℕ) (i : ℕ) → length text ≤ i → drop i text ≡ []
@@ -30,20 +31,12 @@ same_sizes (x ∷ xs) (y ∷ ys) h = ap (λ (t : Bool). eqb x y && t) (same_size
     never true = refl
     never false = refl
 
-module _ (a b : List ℕ) (i : ℕ) (k : i < length a) (l : i < length b) where
-  steps : same_text (drop i a) (drop i b) ≡ (eqb (get_or a i 0) (get_or b i 0) && same_text (drop (i + 1) a) (drop (i + 1) b))
-  steps =
-      ap₂ same_text (drop-cons a i 0 k) (drop-cons b i 0 l)
-      ∙ ap (λ (j : ℕ). eqb (get_or a i 0) (get_or b i 0) && same_text (drop j a) (drop j b)) (sym (add-one i))
-
-  pub same_next : get_or a i 0 ≡ get_or b i 0 → same_text (drop (i + 1) a) (drop (i + 1) b) ≡ same_text (drop i a) (drop i b)
-  same_next e = sym (steps ∙ ap (λ (t : Bool). t && same_text (drop (i + 1) a) (drop (i + 1) b)) (eq-eqb (get_or a i 0) (get_or b i 0) e))
-
-  pub same_not : (get_or a i 0 ≡ get_or b i 0 → ⊥) → same_text (drop i a) (drop i b) ≡ false
-  same_not e = steps ∙ ap (λ (t : Bool). t && same_text (drop (i + 1) a) (drop (i + 1) b)) (ne_eqb (get_or a i 0) (get_or b i 0) e)
-
-pub same_all : (a b : List ℕ) (i : ℕ) → length a ≤ i → length b ≤ i → same_text (drop i a) (drop i b) ≡ true
-same_all a b i k l = ap₂ same_text (ended a i k) (ended b i l)
+-- by pairs, as the library compares
+pub same_pairs : (a b : List ℕ) → pointwise eqb a b ≡ same_text a b
+same_pairs [] [] = refl
+same_pairs [] (y ∷ ys) = refl
+same_pairs (x ∷ xs) [] = refl
+same_pairs (x ∷ xs) (y ∷ ys) = ap (λ (t : Bool). eqb x y && t) (same_pairs xs ys)
 
 pub same_text_lem : (a b : List ℕ) → same_text a b ≡ true → a ≡ b
 same_text_lem [] [] e = refl
@@ -61,29 +54,22 @@ same_self (x ∷ xs) = rw (eq-eqb x x refl) (same_self xs)
 
 -- ---- a text that starts with another
 
-starts_short : (name bs : List ℕ) → length bs < length name → false ≡ starts_with name bs
-starts_short [] bs h = absurd (omega arith)
-starts_short (x ∷ name) [] h = refl
-starts_short (x ∷ name) (b ∷ bs) h = by (eqb b x) (starts_short name bs (omega arith))
+-- by pairs, as the library compares
+starts_pairs : (name bs : List ℕ) → pointwise eqb name (take (length name) bs) ≡ starts_with name bs
+starts_pairs [] bs = refl
+starts_pairs (x ∷ name) [] = refl
+starts_pairs (x ∷ name) (b ∷ bs) = ap₂ (λ (s t : Bool). s && t) (eqb_turned x b) (starts_pairs name bs)
   where
-    by : (t : Bool) → false ≡ starts_with name bs → false ≡ (t && starts_with name bs)
-    by true ih = ih
-    by false ih = refl
+    eqb_turned : (x b : ℕ) → eqb x b ≡ eqb b x
+    eqb_turned x b = by (ℕ_discrete x b)
+      where
+        by : Dec (x ≡ b) → eqb x b ≡ eqb b x
+        by (yes e) = rw e refl
+        by (no n) = rw (ne_eqb x b n, ne_eqb b x (λ e. n (sym e)))
 
-starts_same : (name bs : List ℕ) → length name ≤ length bs → same_text (take (length name) bs) name ≡ starts_with name bs
-starts_same [] bs h = refl
-starts_same (x ∷ name) [] h = absurd (omega arith)
-starts_same (x ∷ name) (b ∷ bs) h = ap (λ (t : Bool). eqb b x && t) (starts_same name bs (omega arith))
-
-module _ (name text : List ℕ) (at : ℕ) where
-  pub starts_none : length text - at < length name → false ≡ starts_with name (drop at text)
-  starts_none h = starts_short name (drop at text) (omega (arith, length-drop at text))
-
-  pub starts_at : length name ≤ length text - at → same_text (take (at + length name - at) (drop at text)) name ≡ starts_with name (drop at text)
-  starts_at h = ap (λ (k : ℕ). same_text (take k (drop at text)) name) (back at (length name)) ∙ starts_same name (drop at text) (omega (arith, length-drop at text))
-    where
-      back : (a b : ℕ) → a + b - a ≡ b
-      back a b = omega arith
+-- the part from a place on
+pub starts_at : (name text : List ℕ) (at : ℕ) → pointwise eqb name (take (length name) (take (length text - at) (drop at text))) ≡ starts_with name (drop at text)
+starts_at name text at = ap (λ (bs : List ℕ). pointwise eqb name (take (length name) bs)) (take_all (length text - at) (drop at text) (omega (arith, length-drop at text))) ∙ starts_pairs name (drop at text)
 
 -- what stands behind the name
 pub starts_text : (name bs : List ℕ) → starts_with name bs ≡ true → bs ≡ name ++ drop (length name) bs

@@ -6,13 +6,14 @@ use Prim.Native.String.{String}
 use mathlib.Core.Path.{◌≡◌, refl, sym, ap, ap₂, ◌∙◌}
 use mathlib.Core.Bool.{Bool, true, false, not, ◌||◌, ◌&&◌}
 use mathlib.Core.List.{List, [], ◌∷◌, ◌++◌, map, append_assoc}
+use Rattle.std.specs.Prelude.{Option, Some, None}
 use native.Mathlib.Omega.{arith}
 use borrow.Author.Tests.{lt-ltb, le-ltb, ltb-true, ne_eqb}
 use lib.Dec.{ltb, eqb}
 use lib.ListN.{length, drop, length-append, length-drop}
 use Rattle.instruction.specs.Bits.{pick}
 use Rattle.text.specs.Cut.{tab, line_feed, cut, before, place_of, rows_in, has, joined}
-use Rattle.text.specs.Number.{is_digit, all_digits, plain, value, numbers, is_number, counted, uncounted, field_to, counted_to, counted_then}
+use Rattle.text.specs.Number.{is_digit, all_digits, plain, value, numbers, is_number, counted, field_to, counted_to, counted_then}
 use Rattle.text.specs.declared.Counted.{Counted}
 use Rattle.text.specs.Line.{Entry, name, number, letters, decimal, entry_text, line_text, Line}
 use Rattle.text.proofs.Cuts.{has_whole, before_piece, none_has, cut_joined, found_has, found_behind}
@@ -31,23 +32,23 @@ pub number_text : (bs : List ℕ) → is_number bs ≡ true → decimal (value b
 number_text bs e = plain_decimal bs (both (plain bs) (ltb (value bs) numbers) e).0
 
 -- what a field says, as it is told
-pub number_said : (x from : ℕ) (text : List ℕ) {r : Counted} → r ≡ counted_to x from text → r.plain ≡ true
+pub number_said : (x from : ℕ) (text : List ℕ) {r : Counted} → Some r ≡ counted_to x from text
     → (is_number (field_to x from text) ≡ true) × (r.value ≡ value (field_to x from text)) × (r.end ≡ place_of x from text)
-number_said x from text {r = r} e p = by (is_number (field_to x from text)) refl e
+number_said x from text {r = r} e = by (is_number (field_to x from text)) refl e
   where
     by : (t : Bool) → is_number (field_to x from text) ≡ t
-        → r ≡ pick t (counted (value (field_to x from text)) (place_of x from text)) (uncounted from)
+        → Some r ≡ pick t (counted (value (field_to x from text)) (place_of x from text)) None
         → (is_number (field_to x from text) ≡ true) × (r.value ≡ value (field_to x from text)) × (r.end ≡ place_of x from text)
-    by true f g = (f, ap (λ (c : Counted). c.value) g, ap (λ (c : Counted). c.end) g)
-    by false f g = never (sym p ∙ ap (λ (c : Counted). c.plain) g)
+    by true f g = let h : r ≡ record { value = value (field_to x from text); end = place_of x from text } = cc in (f, ap (λ (c : Counted). c.value) h, ap (λ (c : Counted). c.end) h)
+    by false f g = cc
 
-pub number_not : (x from : ℕ) (text : List ℕ) {r : Counted} → r ≡ counted_to x from text → r.plain ≡ false → is_number (field_to x from text) ≡ false
-number_not x from text {r = r} e p = by (is_number (field_to x from text)) refl e
+pub number_not : (x from : ℕ) (text : List ℕ) → None ≡ counted_to x from text → is_number (field_to x from text) ≡ false
+number_not x from text e = by (is_number (field_to x from text)) refl e
   where
     by : (t : Bool) → is_number (field_to x from text) ≡ t
-        → r ≡ pick t (counted (value (field_to x from text)) (place_of x from text)) (uncounted from)
+        → None ≡ pick t (counted (value (field_to x from text)) (place_of x from text)) None
         → is_number (field_to x from text) ≡ false
-    by true f g = never (sym (ap (λ (c : Counted). c.plain) g) ∙ p)
+    by true f g = cc
     by false f g = f
 
 -- ---- lines and their fields
@@ -95,13 +96,12 @@ has_append x (b ∷ p) q e f = by (eqb b x) e (has_append x p q)
 
 -- ---- a number with a byte behind it
 
--- both stand there and are read up to what follows, or there is no such number
+-- both stand there and are read up to what follows
 pub record NumberThen (x from : ℕ) (text : List ℕ) (r : Counted) : Type 0 where
   pub inside : r.end ≤ length text
   pub small : r.value < numbers
-  pub found : r.plain ≡ true → drop from text ≡ decimal r.value ++ (x ∷ drop r.end text)
-  pub ends : r.plain ≡ true → r.end ≡ place_of x from text + 1
-  pub none : r.plain ≡ false → (n : ℕ) (more : List ℕ) → n < numbers → drop from text ≡ decimal n ++ (x ∷ more) → ⊥
+  pub found : drop from text ≡ decimal r.value ++ (x ∷ drop r.end text)
+  pub ends : r.end ≡ place_of x from text + 1
 
 module _ (x from : ℕ) (text : List ℕ) where
   abbrev field : List ℕ
@@ -111,23 +111,22 @@ module _ (x from : ℕ) (text : List ℕ) where
   place = place_of x from text
 
   -- what is told, by whether the field is a number, and whether the byte is there
-  abbrev told : Bool → Bool → Counted
-  told t u = pick (t && u) (counted (value field) (place + 1)) (uncounted from)
+  abbrev told : Bool → Bool → Option Counted
+  told t u = pick (t && u) (counted (value field) (place + 1)) None
 
-  module _ {r : Counted} (e : r ≡ counted_to x from text) where
-    pub then_not : r.plain ≡ false → {u : Counted} → u ≡ uncounted from → u ≡ counted_then x from text
-    then_not p f = f ∙ sym (ap (λ (t : Bool). told t (ltb place (length text))) (number_not x from text e p))
+  pub then_not : None ≡ counted_to x from text → None ≡ counted_then x from text
+  then_not e = sym (ap (λ (t : Bool). told t (ltb place (length text))) (number_not x from text e))
 
-    module _ (p : r.plain ≡ true) where
-      pub then_last : length text ≤ r.end → {u : Counted} → u ≡ uncounted from → u ≡ counted_then x from text
-      then_last l f =
-          let s = number_said x from text e p in
-          f ∙ sym (ap₂ told s.0 (le-ltb place (length text) (omega (arith, l, s.2))))
+  module _ {r : Counted} (e : Some r ≡ counted_to x from text) where
+    pub then_last : length text ≤ r.end → None ≡ counted_then x from text
+    then_last l =
+        let s = number_said x from text e in
+        sym (ap₂ told s.0 (le-ltb place (length text) (omega (arith, l, s.2))))
 
-      pub then_found : r.end < length text → {u : Counted} → u ≡ counted r.value (r.end + 1) → u ≡ counted_then x from text
-      then_found l f =
-          let s = number_said x from text e p in
-          f ∙ ap₂ (λ (v k : ℕ). counted v (k + 1)) s.1 s.2 ∙ sym (ap₂ told s.0 (lt-ltb place (length text) (omega (arith, l, s.2))))
+    pub then_found : r.end < length text → counted r.value (r.end + 1) ≡ counted_then x from text
+    then_found l =
+        let s = number_said x from text e in
+        ap₂ (λ (v k : ℕ). counted v (k + 1)) s.1 s.2 ∙ sym (ap₂ told s.0 (lt-ltb place (length text) (omega (arith, l, s.2))))
 
   module _ (h : from ≤ length text) (n : is_digit x ≡ false) where
     -- a number that stands there is read
@@ -140,33 +139,33 @@ module _ (x from : ℕ) (text : List ℕ) where
         far : place < length text
         far = omega (arith, h, ap length piece, ap length s, length-append (decimal k) (x ∷ more), length-drop from text)
 
-    pub then_read : {r : Counted} → r ≡ counted_then x from text → NumberThen x from text r
+    -- what is told is there, and where nothing is told there is none
+    pub then_read : {r : Counted} → Some r ≡ counted_then x from text → NumberThen x from text r
     then_read {r = r} e = by (is_number field && ltb place (length text)) refl e
       where
-        by : (t : Bool) → (is_number field && ltb place (length text)) ≡ t → r ≡ pick t (counted (value field) (place + 1)) (uncounted from) → NumberThen x from text r
-        by false f g =
-            rw g
-            record {
-              inside = h;
-              small = omega arith;
-              found = λ t. never (sym t);
-              ends = λ t. never (sym t);
-              none = λ t k more l s. never (sym (stood k more l s) ∙ f);
-            }
+        by : (t : Bool) → (is_number field && ltb place (length text)) ≡ t → Some r ≡ pick t (counted (value field) (place + 1)) None → NumberThen x from text r
+        by false f g = cc
         by true f g =
             let b = both (is_number field) (ltb place (length text)) f in
             let l = ltb-true place (length text) b.1 in
-            rw g
+            let h : r ≡ record { value = value field; end = place + 1 } = cc in
+            rw h
             record {
               inside = omega (arith, l);
               small = ltb-true (value field) numbers (both (plain field) (ltb (value field) numbers) b.0).1;
-              found = λ t.
+              found =
                   has_whole x (drop from text) (found_has x from text {r = place} refl l)
                   ∙ ap (λ (bs : List ℕ). field ++ (x ∷ bs)) (found_behind x from text {r = place} refl l)
                   ∙ ap (λ (bs : List ℕ). bs ++ (x ∷ drop (place + 1) text)) (sym (number_text field b.0));
-              ends = λ t. refl;
-              none = λ t. never t;
+              ends = refl;
             }
+
+    pub then_none : None ≡ counted_then x from text → (k : ℕ) (more : List ℕ) → k < numbers → drop from text ≡ decimal k ++ (x ∷ more) → ⊥
+    then_none e k more l s = by (is_number field && ltb place (length text)) (stood k more l s) e
+      where
+        by : (t : Bool) → t ≡ true → None ≡ pick t (counted (value field) (place + 1)) None → ⊥
+        by true f g = cc
+        by false f g = never (sym f)
 
 -- neither of two
 neither : (a b : Bool) → not (a || b) ≡ true → (a ≡ false) × (b ≡ false)

@@ -4,16 +4,17 @@ use Prim.Native.Nat.{ℕ, suc, ◌+◌, ◌*◌, ◌-◌, ◌≤◌, ◌<◌}
 use mathlib.Core.Path.{◌≡◌, refl, sym, ap, subst, ◌∙◌}
 use mathlib.Core.Bool.{Bool, true, false, ◌&&◌}
 use mathlib.Core.List.{List, [], ◌∷◌}
+use Rattle.std.specs.Prelude.{Option, None}
 use native.Mathlib.Omega.{arith}
 use native.Mathlib.Numerals.{add-one}
-use borrow.Author.Tests.{lt-ltb, le-ltb, le-leb, lt-leb, ltb-true, ltb-false, eq-eqb, ne_eqb}
-use lib.Dec.{ltb, leb, eqb}
-use native.Mathlib.Decide.{dec_lt, ℕ_discrete}
+use borrow.Author.Tests.{lt-ltb, le-ltb, ltb-true, ltb-false, eq-eqb, ne_eqb}
+use lib.Dec.{ltb}
+use native.Mathlib.Decide.{ℕ_discrete}
 use lib.ListN.{length, drop, get_or, drop_of_length-le}
 use lib.Seq.{drop-cons}
 use Rattle.instruction.specs.Bits.{pick}
 use Rattle.text.specs.Cut.{before, place_of}
-use Rattle.text.specs.Number.{is_digit, all_digits, no_leading_zero, plain, value_from, value, numbers, is_number, counted, uncounted, field_to, counted_to, Led}
+use Rattle.text.specs.Number.{is_digit, all_digits, no_leading_zero, plain, value_from, value, numbers, is_number, counted, field_to, counted_to, Led}
 use Rattle.text.proofs.Cuts.{place_none, place_here, place_next}
 use Rattle.text.specs.declared.Counted.{Counted}
 use Rattle.text.proofs.Bools.{and_false, never}
@@ -36,7 +37,7 @@ module _ (x from : ℕ) (line : List ℕ) (h : from ≤ length line) where
   counting_start = record { inside = h; order = omega arith; upto = h; small = omega arith; place = refl; digits = refl; said = refl }
 
 -- a field that is no number
-not_counted : (x from : ℕ) (line : List ℕ) → is_number (field_to x from line) ≡ false → uncounted from ≡ counted_to x from line
+not_counted : (x from : ℕ) (line : List ℕ) → is_number (field_to x from line) ≡ false → None ≡ counted_to x from line
 not_counted x from line e = rw e
 
 -- more digits never make a number less
@@ -88,7 +89,7 @@ module _ (x from : ℕ) (line : List ℕ) {v i : ℕ} (c : Counting x from line 
       said_go = c.said ∙ ap (value_from v) more
 
       -- a byte that is no digit
-      pub counting_not : is_digit b ≡ false → uncounted from ≡ counted_to x from line
+      pub counting_not : is_digit b ≡ false → None ≡ counted_to x from line
       counting_not f =
           not_counted x from line
           (ap (λ (t : Bool). (no_leading_zero (field_to x from line) && t) && ltb (value (field_to x from line)) numbers) (digits_go f)
@@ -96,7 +97,7 @@ module _ (x from : ℕ) (line : List ℕ) {v i : ℕ} (c : Counting x from line 
 
     module _ {d : ℕ} (f : d ≡ b - 48) (n : is_digit x ≡ false) (g : is_digit b ≡ true) where
       -- too large, whatever follows
-      pub counting_large : ltb (v * 10 + d) numbers ≡ false → uncounted from ≡ counted_to x from line
+      pub counting_large : ltb (v * 10 + d) numbers ≡ false → None ≡ counted_to x from line
       counting_large l =
           not_counted x from line
           (ap (λ (t : Bool). plain (field_to x from line) && t)
@@ -116,27 +117,6 @@ module _ (x from : ℕ) (line : List ℕ) {v i : ℕ} (c : Counting x from line 
             said = said_go (digit_other x b n g) ∙ ap (λ (y : ℕ). value_from (v * 10 + y) (field_to x (i + 1) line)) (sym f);
           }
 
--- ---- a digit more, as it is computed
-
--- the greatest number there is, without its last digit, and that digit
-abbrev tenth : ℕ
-tenth = 1844674407370955161
-
-module _ (v d : ℕ) (h : d < 10) where
-  pub grow_below : v < tenth → true ≡ ltb (v * 10 + d) numbers
-  grow_below l = sym (lt-ltb (v * 10 + d) numbers (omega arith))
-
-  pub grow_test : tenth ≤ v → (eqb v tenth && leb d 5) ≡ ltb (v * 10 + d) numbers
-  grow_test l = by (ℕ_discrete v tenth) (dec_lt 5 d)
-    where
-      above : (v d : ℕ) → tenth ≤ v → (v ≡ tenth → ⊥) → numbers ≤ v * 10 + d
-      above v d l e = omega arith
-
-      by : Dec (v ≡ tenth) → Dec (5 < d) → (eqb v tenth && leb d 5) ≡ ltb (v * 10 + d) numbers
-      by (no e) k = rw (ne_eqb v tenth e, le-ltb (v * 10 + d) numbers (above v d l e))
-      by (yes e) (yes k) = rw (eq-eqb v tenth e, lt-leb d 5 k, le-ltb (v * 10 + d) numbers (omega arith))
-      by (yes e) (no k) = rw (eq-eqb v tenth e, le-leb d 5 (omega arith), lt-ltb (v * 10 + d) numbers (omega arith))
-
 -- ---- the first digit
 
 lead_other : (b : ℕ) (bs : List ℕ) → (b ≡ 48 → ⊥) → no_leading_zero (b ∷ bs) ≡ true
@@ -144,17 +124,17 @@ lead_other b [] n = refl
 lead_other b (c ∷ bs) n = rw (ne_eqb b 48 n)
 
 module _ (x from : ℕ) (text : List ℕ) where
-  pub first_none : length text ≤ from → uncounted from ≡ counted_to x from text
+  pub first_none : length text ≤ from → None ≡ counted_to x from text
   first_none h = not_counted x from text (ap (λ (l : List ℕ). is_number (before x l)) (drop_of_length-le text h))
 
   module _ (h : from < length text) where
     start : Counting x from text 0 from
     start = counting_start x from text (omega arith)
 
-    pub first_not : is_digit (get_or text from 0) ≡ false → uncounted from ≡ counted_to x from text
+    pub first_not : is_digit (get_or text from 0) ≡ false → None ≡ counted_to x from text
     first_not f = by (ℕ_discrete (get_or text from 0) x)
       where
-        by : Dec (get_or text from 0 ≡ x) → uncounted from ≡ counted_to x from text
+        by : Dec (get_or text from 0 ≡ x) → None ≡ counted_to x from text
         by (yes e) = not_counted x from text (ap is_number (field_here x from text h e))
         by (no e) = counting_not x from text start h e f
 
@@ -181,8 +161,8 @@ module _ (x from : ℕ) (text : List ℕ) (l : Led x from 0 text) where
   alone : field_to x (from + 1) text ≡ [] → counted 0 (from + 1) ≡ counted_to x from text
   alone e = sym (ap told (led_field x from text l ∙ (λ j. is_zero j ∷ e j)))
     where
-      told : List ℕ → Counted
-      told f = pick (is_number f) (counted (value f) (from + length f)) (uncounted from)
+      told : List ℕ → Option Counted
+      told f = pick (is_number f) (counted (value f) (from + length f)) None
 
   pub zero_last : length text ≤ from + 1 → counted 0 (from + 1) ≡ counted_to x from text
   zero_last h = alone (ap (before x) (drop_of_length-le text h))
@@ -191,7 +171,7 @@ module _ (x from : ℕ) (text : List ℕ) (l : Led x from 0 text) where
     pub zero_here : get_or text (from + 1) 0 ≡ x → counted 0 (from + 1) ≡ counted_to x from text
     zero_here e = alone (field_here x (from + 1) text h e)
 
-    pub zero_more : (get_or text (from + 1) 0 ≡ x → ⊥) → uncounted from ≡ counted_to x from text
+    pub zero_more : (get_or text (from + 1) 0 ≡ x → ⊥) → None ≡ counted_to x from text
     zero_more n =
         not_counted x from text
         (ap is_number (led_field x from text l ∙ (λ j. is_zero j ∷ next j)))

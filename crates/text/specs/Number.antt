@@ -1,5 +1,5 @@
 -- A field that is a number: "decimals without leading zeros", "plain decimal below 2^64".
-use Rattle.std.specs.Prelude.{ℕ, ◌+◌, ◌*◌, ◌-◌, ◌^◌, ◌<◌, ◌≡◌, Bool, true, false, not, ◌&&◌, List, [], ◌∷◌, ltb, leb, eqb, length, drop, get_or}
+use Rattle.std.specs.Prelude.{ℕ, ◌+◌, ◌*◌, ◌-◌, ◌^◌, ◌<◌, ◌≡◌, Bool, true, false, not, ◌&&◌, List, [], ◌∷◌, ltb, leb, eqb, length, drop, get_or, Option, Some, None}
 use Rattle.instruction.specs.Bits.{pick}
 use Rattle.text.specs.Cut.{tab, before, place_of}
 use Rattle.text.specs.declared.Counted.{Counted}
@@ -43,31 +43,28 @@ is_number bs = plain bs && ltb (value bs) numbers
 
 -- ---- what the functions tell
 
-abbrev pub counted : ℕ → ℕ → Counted
-counted v end = record { plain = true; value = v; end = end }
-
-abbrev pub uncounted : ℕ → Counted
-uncounted from = record { plain = false; value = 0; end = from }
+abbrev pub counted : ℕ → ℕ → Option Counted
+counted v end = Some (record { value = v; end = end })
 
 -- what stands from a place on, up to a byte or the text's end
 abbrev pub field_to : ℕ → ℕ → List ℕ → List ℕ
 field_to x from text = before x (drop from text)
 
--- whether it is a number, which, and where it ends
-abbrev pub counted_to : ℕ → ℕ → List ℕ → Counted
+-- which number it is, and where it ends; none where it is no number
+abbrev pub counted_to : ℕ → ℕ → List ℕ → Option Counted
 counted_to x from text =
-    pick (is_number (field_to x from text)) (counted (value (field_to x from text)) (place_of x from text)) (uncounted from)
+    pick (is_number (field_to x from text)) (counted (value (field_to x from text)) (place_of x from text)) None
 
--- whether it is one and the byte stands behind it, which, and the place behind that byte
-abbrev pub counted_then : ℕ → ℕ → List ℕ → Counted
+-- which number it is, and the place behind the byte that stands behind it; none where it is none, or the byte is not there
+abbrev pub counted_then : ℕ → ℕ → List ℕ → Option Counted
 counted_then x from text =
-    pick (is_number (field_to x from text) && ltb (place_of x from text) (length text)) (counted (value (field_to x from text)) (place_of x from text + 1)) (uncounted from)
+    pick (is_number (field_to x from text) && ltb (place_of x from text) (length text)) (counted (value (field_to x from text)) (place_of x from text + 1)) None
 
 -- a field of a line, from a place on
 abbrev pub field_at : ℕ → List ℕ → List ℕ
 field_at from line = field_to tab from line
 
-abbrev pub counted_at : ℕ → List ℕ → Counted
+abbrev pub counted_at : ℕ → List ℕ → Option Counted
 counted_at from line = counted_to tab from line
 
 -- a digit that stands at a place, of so much

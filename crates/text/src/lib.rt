@@ -2,9 +2,16 @@
 // A text is cut into lines at line feeds and a line into fields at tabs; what the fields mean is for its readers to say.
 #![tactic(auto)]
 
-ghost use Rattle.std.specs.Prelude.{◌≡◌, true, false, ◌≤◌, ◌<◌, ◌+◌, ◌*◌, ◌-◌, ltb, length, drop};
+ghost use Rattle.std.specs.Prelude.{◌≡◌, true, false, ◌≤◌, ◌<◌, ◌+◌, ◌-◌, length, drop, MatchOption};
 ghost use Rattle.text.specs.Cut.{place_of, same_text, starts_with, half, stride};
-ghost use Rattle.text.specs.Number.{is_digit, numbers, counted, uncounted, counted_to, counted_then, counted_at, Led};
+ghost use Rattle.text.specs.Number.{is_digit, counted_to, counted_then, counted_at, Led};
+
+// Why a text is refused: the number of what is wrong, and the line that has it, from 1; 0 where no line has.
+#[derive(Clone, Copy, PartialEq, Eq)]
+pub struct Refused {
+    pub number: u64,
+    pub line: u64,
+}
 
 // How many bytes are passed over at a time.
 const STRIDE: usize = 8;
@@ -38,6 +45,7 @@ fn stride_over(text: &[u8], from: usize, x: u8) -> usize
         return from;
     }
     let last = text.len() - STRIDE;
+    // A `while`: the place behind the last stride is told, which a `step_by` would not have.
     let mut i = from;
     while i <= last {
         if !may_stride(text, i, x) {
@@ -52,31 +60,20 @@ fn stride_over(text: &[u8], from: usize, x: u8) -> usize
 pub fn find(text: &[u8], from: usize, x: u8) -> usize
     ensures { result ≡ place_of x from text.now }
 {
-    let mut i = stride_over(text, from, x);
-    while i < text.len() {
+    let near = stride_over(text, from, x);
+    for i in near..text.len() {
         if text[i] == x {
             return i;
         }
-        i += 1;
     }
-    i
+    near.max(text.len())
 }
 
 // Whether two texts are the same.
 pub fn same(a: &[u8], b: &[u8]) -> bool
     ensures { result ≡ same_text a.now b.now }
 {
-    if a.len() != b.len() {
-        return false;
-    }
-    let mut i: usize = 0;
-    while i < a.len() {
-        if a[i] != b[i] {
-            return false;
-        }
-        i += 1;
-    }
-    true
+    a == b
 }
 
 // Whether another text stands at a place.
@@ -84,16 +81,22 @@ pub fn starts_with(text: &[u8], at: usize, name: &[u8]) -> bool
     requires { at ≤ length text.now }
     ensures { result ≡ starts_with name.now (drop at text.now) }
 {
-    if text.len() - at < name.len() {
-        return false;
-    }
-    same(&text[at..at + name.len()], name)
+    text[at..].starts_with(name)
 }
 
-// A field from a place on: whether it is a number in plain decimal, which, and where it ends.
+// What a digit stands for; nothing where the byte is none.
+fn digit(b: u8) -> Option<u64>
+    ensures { MatchOption result (is_digit b ≡ false) (λ d. (is_digit b ≡ true) × (d ≡ b - 48) × (d < 10)) }
+{
+    match b {
+        b'0'..=b'9' => Some(u64::from(b - b'0')),
+        _ => None,
+    }
+}
+
+// A number in plain decimal that stands in a text, and the place behind it.
 #[derive(Clone, Copy)]
 pub struct Counted {
-    pub plain: bool,
     pub value: u64,
     pub end: usize,
 }
@@ -101,107 +104,48 @@ pub struct Counted {
 impl Counted {
     pub const BASE: u64 = 10;
 
-    // The digit of nothing.
-    const ZERO: u64 = 48;
-
-    fn not(from: usize) -> Counted
-        ensures { result ≡ uncounted from }
-    {
-        Counted {
-            plain: false,
-            value: 0,
-            end: from,
-        }
-    }
-
-    fn is_digit(b: u8) -> bool
-        ensures { result ≡ is_digit b }
-    {
-        (b'0' <= b) & (b <= b'9')
-    }
-
-    fn digit_value(b: u8) -> u64
-        requires { is_digit b ≡ true }
-        ensures { (result ≡ b - 48) × (result < 10) }
-    {
-        b as u64 - Counted::ZERO
-    }
-
-    // Whether one more digit leaves a number that there is.
-    fn grows(value: u64, digit: u64) -> bool
-        requires { digit < 10 }
-        ensures { result ≡ ltb (value * 10 + digit) numbers }
-    {
-        if value < u64::MAX / Counted::BASE {
-            return true;
-        }
-        (value == u64::MAX / Counted::BASE) & (digit <= u64::MAX % Counted::BASE)
-    }
-
-    fn found(value: u64, end: usize) -> Counted
-        ensures { result ≡ counted value end }
-    {
-        Counted {
-            plain: true,
-            value,
-            end,
-        }
-    }
-
     // A "0", which stands alone.
-    fn zero(text: &[u8], from: usize, x: u8) -> Counted
+    fn zero(text: &[u8], from: usize, x: u8) -> Option<Counted>
         requires { Led x from 0 text.now }
         ensures { result ≡ counted_to x from text.now }
     {
         let end = from + 1;
-        if text.len() <= end {
-            return Counted::found(0, end);
+        if end < text.len() && text[end] != x {
+            return None;
         }
-        if text[end] != x {
-            return Counted::not(from);
-        }
-        Counted::found(0, end)
+        Some(Counted { value: 0, end })
     }
 }
 
 // Digit by digit behind the first, which is no "0".
-fn number_on(text: &[u8], from: usize, first: u64, x: u8) -> Counted
+fn number_on(text: &[u8], from: usize, first: u64, x: u8) -> Option<Counted>
     requires { (Led x from first text.now) × (first ≡ 0 → ⊥) }
     ensures { result ≡ counted_to x from text.now }
 {
     let mut value = first;
-    let mut i = from + 1;
-    while i < text.len() {
+    for i in from + 1..text.len() {
         let b = text[i];
-        if !Counted::is_digit(b) {
-            if b == x {
-                return Counted::found(value, i);
-            }
-            return Counted::not(from);
+        if !b.is_ascii_digit() {
+            return (b == x).then_some(Counted { value, end: i });
         }
-        let d = Counted::digit_value(b);
-        if !Counted::grows(value, d) {
-            return Counted::not(from);
-        }
-        value = value * Counted::BASE + d;
-        i += 1;
+        let d = u64::from(b - b'0');
+        value = value.checked_mul(Counted::BASE)?.checked_add(d)?;
     }
-    Counted::found(value, i)
+    Some(Counted {
+        value,
+        end: text.len(),
+    })
 }
 
 // What stands from a place on, up to a byte that is no digit or the text's end, as a number.
-fn number_until(text: &[u8], from: usize, x: u8) -> Counted
+fn number_until(text: &[u8], from: usize, x: u8) -> Option<Counted>
     requires { (from ≤ length text.now) × (is_digit x ≡ false) }
     ensures { result ≡ counted_to x from text.now }
 {
     if text.len() <= from {
-        return Counted::not(from);
+        return None;
     }
-    let b = text[from];
-    if !Counted::is_digit(b) {
-        return Counted::not(from);
-    }
-    let first = Counted::digit_value(b);
+    let first = digit(text[from])?;
     if first == 0 {
         return Counted::zero(text, from, x);
     }
@@ -209,7 +153,7 @@ fn number_until(text: &[u8], from: usize, x: u8) -> Counted
 }
 
 // The field from a place on, up to a tab or the text's end, as a number.
-pub fn number_from(text: &[u8], from: usize) -> Counted
+pub fn number_from(text: &[u8], from: usize) -> Option<Counted>
     requires { from ≤ length text.now }
     ensures { result ≡ counted_at from text.now }
 {
@@ -217,16 +161,16 @@ pub fn number_from(text: &[u8], from: usize) -> Counted
 }
 
 // The number from a place on that has a byte behind it, and the place behind that.
-pub fn number_then(text: &[u8], from: usize, x: u8) -> Counted
+pub fn number_then(text: &[u8], from: usize, x: u8) -> Option<Counted>
     requires { (from ≤ length text.now) × (is_digit x ≡ false) }
     ensures { result ≡ counted_then x from text.now }
 {
-    let field = number_until(text, from, x);
-    if !field.plain {
-        return Counted::not(from);
-    }
+    let field = number_until(text, from, x)?;
     if text.len() <= field.end {
-        return Counted::not(from);
+        return None;
     }
-    Counted::found(field.value, field.end + 1)
+    Some(Counted {
+        value: field.value,
+        end: field.end + 1,
+    })
 }

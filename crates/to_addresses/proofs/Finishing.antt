@@ -2,22 +2,19 @@
 -- Assumes nothing.
 use Prim.Native.Nat.{ℕ, zero, suc, ◌+◌, ◌*◌, ◌≤◌, ◌<◌}
 use mathlib.Core.Path.{◌≡◌, refl, sym, ap, ap₂, subst, ◌∙◌}
-use mathlib.Core.Bool.{Bool, true, false, ◌&&◌}
+use mathlib.Core.Bool.{Bool, true, false}
 use mathlib.Core.List.{List, [], ◌∷◌, ◌++◌}
 use native.Mathlib.Omega.{arith}
-use borrow.Author.Tests.{eqb-true}
-use lib.Dec.{eqb}
 use lib.ListN.{length, get_or, take, drop, length-append}
 use lib.Seq.{get_or-take, length-take-le}
+use Rattle.std.specs.Prelude.{Option, Some, None, IfSome}
 use Rattle.instruction.specs.Bits.{pick}
 use Rattle.buffer.specs.Put.{Fits, Put}
 use Rattle.text.specs.Cut.{Row, fields_in, rows_in}
-use Rattle.text.proofs.Bools.{both}
 use Rattle.label.specs.Label.{is_label}
 use Rattle.label.specs.First.{IsDouble}
 use Rattle.label.specs.Key.{key_of, count, Holds, Seen}
 use Rattle.label.specs.declared.Key.{Key}
-use Rattle.label.specs.declared.index.Sight.{Sight}
 use Rattle.label.proofs.Packed.{label_one}
 use Rattle.listing.specs.Listing.{head_of}
 use Rattle.listing_reader.specs.ReadBack.{is_edition, rows_behind}
@@ -29,9 +26,8 @@ use Rattle.editions.specs.declared.Moved.{Moved}
 use Rattle.editions.specs.declared.Room.{Room}
 use Rattle.editions.proofs.Two.{defined_label}
 use Rattle.editions.proofs.Whole.{refused_lines, passed_lines, moves_short, head_fits, lines_fit, moves_whole}
-use Rattle.to_addresses.specs.Moving.{rows_from, defined_in, nothing, Collected, Knows, Notes, Judges, Parts, Finishes}
-use Rattle.to_addresses.specs.declared.Judged.{Judged}
-use Rattle.to_addresses.specs.declared.Known.{Known}
+use Rattle.to_addresses.specs.Moving.{rows_from, defined_in, nothing, Collected, Knows, Notes, BadLine, GoodLines, Parts, Finishes}
+use Rattle.text.specs.declared.Refused.{Refused}
 use Rattle.to_addresses.specs.declared.Passed.{Passed}
 use Rattle.to_addresses.proofs.Seeking.{labels_length, label_at}
 
@@ -51,16 +47,10 @@ all_labels a (row ∷ rows) j l = by (defines row) (is_label_line (fields_in row
     by false true e j l ih = ih a j l
     by false false e j l ih = ih (a + 1) j l
 
-module _ (text : List ℕ) (from : ℕ) (keys table : List ℕ) (end : Passed) (p : Parts text from keys end) {sight : Sight} (s : Seen keys table sight) where
-  abbrev pub known : Known
-  known = record { from = from; ready = sight.ready && eqb (count keys) end.labels; double = sight.double; labels = end.labels; words = end.words }
-
-  module _ (r : (sight.ready && eqb (count keys) end.labels) ≡ true) where
-    seen : sight.ready ≡ true
-    seen = (both sight.ready (eqb (count keys) end.labels) r).0
-
+module _ (text : List ℕ) (from : ℕ) (keys table : List ℕ) (end : Passed) (p : Parts text from keys end) where
+  module _ {first : ℕ} (s : Seen keys table first × (count keys ≡ end.labels)) where
     whole : count keys ≡ end.labels
-    whole = eqb-true (count keys) end.labels (both sight.ready (eqb (count keys) end.labels) r).1
+    whole = s.1
 
     many : count keys ≡ length (labels_of (defined_in text from))
     many = omega (arith, whole, p.collected.labels, labels_length (defined_in text from))
@@ -78,60 +68,62 @@ module _ (text : List ℕ) (from : ℕ) (keys table : List ℕ) (end : Passed) (
           shaped = λ j l. ap is_label (label_at (defined_in text from) j) ∙ all_labels 0 (rows_from text from) j (inside j l);
         }
 
-    double : IsDouble (λ i. get_or (labels_of (defined_in text from)) i []) (length (defined_in text from)) sight.double
+    double : IsDouble (λ i. get_or (labels_of (defined_in text from)) i []) (length (defined_in text from)) first
     double =
-        let d = s.double seen in
+        let d = s.0.first in
         record {
           low = omega (arith, d.low, many, labels_length (defined_in text from));
           here = λ l.
               let w = d.here (omega (arith, l, many, labels_length (defined_in text from))) in
-              (w.0, w.1, label_one (labels_of (defined_in text from)) keys holds w.0 sight.double (omega (arith, w.1, l, labels_length (defined_in text from))) (omega (arith, l, labels_length (defined_in text from))) w.2);
+              (w.0, w.1, label_one (labels_of (defined_in text from)) keys holds w.0 first (omega (arith, w.1, l, labels_length (defined_in text from))) (omega (arith, l, labels_length (defined_in text from))) w.2);
           none = λ j i l m e.
               let k : j < length (labels_of (defined_in text from)) = omega (arith, l, d.low, many) in
               d.none j i l m (holds.each i (omega (arith, m, k)) ∙ ap key_of e ∙ sym (holds.each j k));
         }
 
-  pub knows : Knows text keys table known
-  knows =
+  pub knows : {double : Option ℕ} → IfSome double (λ d. Seen keys table d × (count keys ≡ end.labels))
+      → Knows text keys table (record { from = from; double = double; labels = end.labels; words = end.words })
+  knows {double = None} s =
+      record { labels = p.collected.labels; words = p.collected.words; holds = λ d r. cc; means = λ d r. cc; looked = λ d r. cc; double = λ d r. cc }
+  knows {double = Some first} s =
       record {
         labels = p.collected.labels;
         words = p.collected.words;
-        holds = λ r. holds r;
-        means = λ r j l. (p.collected.kept j (omega (arith, l, whole r)) l).1;
-        looked = λ r. s.looked (seen r);
-        double = λ r. double r;
+        holds = λ d r. holds s;
+        means = λ d r j l. (p.collected.kept j (omega (arith, l, whole s)) l).1;
+        looked = λ d r. s.0.looked;
+        double = λ d r. let e : first ≡ d = cc in subst (IsDouble (λ i. get_or (labels_of (defined_in text from)) i []) (length (defined_in text from))) e (double s);
       }
 
 -- ---- judged, and written
 
-pub finish_notes : (text : List ℕ) (from : ℕ) (keys : List ℕ) (end : Passed) → Parts text from keys end → {room : Room} {notes : List ℕ} {judged : Judged} → Judges text from room notes judged
-    → judged.number ≡ 0 → Notes text from notes end.words
-finish_notes text from keys end p {notes = notes} j z = subst (Notes text from notes) (sym p.collected.words) (j.kept z)
+pub finish_notes : (text : List ℕ) (from : ℕ) (keys : List ℕ) (end : Passed) → Parts text from keys end → {room left : Room} {notes : List ℕ} → GoodLines text from room notes left
+    → Notes text from notes end.words
+finish_notes text from keys end p {notes = notes} j = subst (Notes text from notes) (sym p.collected.words) j.kept
 
-module _ (text : List ℕ) (from : ℕ) (before : List ℕ) (h : from ≡ length (head_of 1)) {room : Room} (r : RoomFor (length before) from room)
-    {notes : List ℕ} {judged : Judged} (j : Judges text from room notes judged) where
-  pub finish_bad : (judged.number ≡ 0 → ⊥) → {m : Moved} → m ≡ refused_at judged.number judged.line → Finishes text from before before m
-  finish_bad n e =
+module _ (text : List ℕ) (from : ℕ) (before : List ℕ) where
+  pub finish_bad : {e : Refused} → BadLine text from e → {m : Moved} → m ≡ refused_at e.number e.line → Finishes text from before before m
+  finish_bad j e =
       refused_lines (judged_two (labels_of (defined_in text from)) [] 2 (rows_from text from)) (head_of 1 ++ addressed_from (defined_in text from) 0 (rows_from text from)) before
-      (λ z. n (ap (λ (x : Moved). x.number) j.told ∙ z)) (e ∙ j.told)
+      (λ z. j.some (ap (λ (x : Moved). x.number) j.told ∙ z)) (e ∙ j.told)
 
-  module _ (z : judged.number ≡ 0) where
+  module _ (h : from ≡ length (head_of 1)) {room left : Room} (r : RoomFor (length before) from room) {notes : List ℕ} (j : GoodLines text from room notes left) where
     pub finish_good : (judged_two (labels_of (defined_in text from)) [] 2 (rows_from text from)).number ≡ 0
-    finish_good = sym (ap (λ (x : Moved). x.number) j.told) ∙ z
+    finish_good = sym (ap (λ (x : Moved). x.number) j.told)
 
-    told : RoomFor (length before) (length (head_of 1 ++ addressed_from (defined_in text from) 0 (rows_from text from))) judged.room
+    told : RoomFor (length before) (length (head_of 1 ++ addressed_from (defined_in text from) 0 (rows_from text from))) left
     told =
-        subst (λ (n : ℕ). RoomFor (length before) n judged.room)
+        subst (λ (n : ℕ). RoomFor (length before) n left)
         (omega (arith, h, length-append (head_of 1) (addressed_from (defined_in text from) 0 (rows_from text from))))
-        (j.left z (length before) from r)
+        (j.takes (length before) from r)
 
     passed : {after : List ℕ} {m : Moved} → Moves (moved 0) (head_of 1 ++ addressed_from (defined_in text from) 0 (rows_from text from)) before after m → Finishes text from before after m
     passed w = passed_lines (judged_two (labels_of (defined_in text from)) [] 2 (rows_from text from)) (head_of 1 ++ addressed_from (defined_in text from) 0 (rows_from text from)) before finish_good w
 
-    pub finish_short : judged.room.left ≡ 0 → {m : Moved} → m ≡ refused_at 64 0 → Finishes text from before before m
+    pub finish_short : left.left ≡ 0 → {m : Moved} → m ≡ refused_at 64 0 → Finishes text from before before m
     finish_short f e = passed (moves_short (head_of 1) (addressed_from (defined_in text from) 0 (rows_from text from)) before told f e)
 
-    module _ (f : judged.room.left ≡ 0 → ⊥) where
+    module _ (f : left.left ≡ 0 → ⊥) where
       pub finish_head : Fits (head_of 1) before 0
       finish_head = head_fits (head_of 1) (addressed_from (defined_in text from) 0 (rows_from text from)) before told f
 
@@ -144,18 +136,18 @@ module _ (text : List ℕ) (from : ℕ) (before : List ℕ) (h : from ≡ length
 
 -- ---- a text
 
-module _ (text : List ℕ) {from : ℕ} (e : from ≡ pick (is_edition 2 text) (length (head_of 2)) 0) where
-  module _ (z : from ≡ 0) (before : List ℕ) where
+module _ (text : List ℕ) where
+  module _ (e : None ≡ pick (is_edition 2 text) (Some (length (head_of 2))) None) (before : List ℕ) where
     judged_60 : labels_judged text ≡ refused_at 60 1
     unfolding labels_judged
-    judged_60 = ap (λ (t : Bool). pick t (judged_two (labels_of (defined_from 0 (rows_behind 2 text))) [] 2 (rows_behind 2 text)) (refused_at 60 1)) (edition_not 2 text (omega arith) e z)
+    judged_60 = ap (λ (t : Bool). pick t (judged_two (labels_of (defined_from 0 (rows_behind 2 text))) [] 2 (rows_behind 2 text)) (refused_at 60 1)) (edition_not 2 text e)
 
     pub no_header : {m : Moved} → m ≡ refused_at 60 1 → ToAddresses text before before m
     no_header f = refused_lines (labels_judged text) (addressed text) before (λ q. omega (arith, ap (λ (x : Moved). x.number) judged_60, q)) (f ∙ sym judged_60)
 
-  module _ (h : from ≡ 0 → ⊥) where
+  module _ {from : ℕ} (e : Some from ≡ pick (is_edition 2 text) (Some (length (head_of 2))) None) where
     headed : (is_edition 2 text ≡ true) × (from ≡ length (head_of 2))
-    headed = edition_is 2 text (omega arith) e h
+    headed = edition_is 2 text e
 
     -- the headers of both editions are as long
     pub head_size : from ≡ length (head_of 1)

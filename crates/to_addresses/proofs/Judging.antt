@@ -9,6 +9,7 @@ use native.Mathlib.Decide.{ℕ_discrete, dec_lt}
 use borrow.Author.Tests.{eq-eqb, ne_eqb, lt-ltb, le-ltb, ltb-true, ltb-false, le-leb, lt-leb, eqb-false}
 use lib.Dec.{eqb, ltb, leb}
 use lib.ListN.{length, get_or, drop, length-drop}
+use Rattle.std.specs.Prelude.{Some}
 use Rattle.instruction.specs.Bits.{pick}
 use Rattle.instruction.specs.Form.{filled}
 use Rattle.text.specs.Cut.{Row, row_at, fields_in, same_text}
@@ -86,10 +87,10 @@ module _ (text : List ℕ) (k : Known) (j : ℕ) (name : List ℕ) (h : Twice te
   size : length (labels_of (defined_in text k.from)) ≡ length (defined_in text k.from)
   size = labels_length (defined_in text k.from)
 
-  module _ (r : k.ready ≡ true) where
+  module _ {d : ℕ} (r : k.double ≡ Some d) where
     -- label j stood before just where it is the first double
-    pub double_is : eqb j k.double ≡ ltb (first_name (labels_of (defined_in text k.from)) name) j
-    double_is = by (ℕ_discrete j k.double)
+    pub double_is : eqb j d ≡ ltb (first_name (labels_of (defined_in text k.from)) name) j
+    double_is = by (ℕ_discrete j d)
       where
         first : IsFirst (λ i. get_or (labels_of (defined_in text k.from)) i []) (length (labels_of (defined_in text k.from))) name (first_name (labels_of (defined_in text k.from)) name)
         first = first_name_lem (labels_of (defined_in text k.from)) name
@@ -101,23 +102,23 @@ module _ (text : List ℕ) (k : Known) (j : ℕ) (name : List ℕ) (h : Twice te
             low (yes m) = absurd (first.none i m e)
             low (no m) = omega arith
 
-        later : (j < k.double) → j ≤ first_name (labels_of (defined_in text k.from)) name
+        later : (j < d) → j ≤ first_name (labels_of (defined_in text k.from)) name
         later l = low (dec_lt (first_name (labels_of (defined_in text k.from)) name) j)
           where
             low : Dec (first_name (labels_of (defined_in text k.from)) name < j) → j ≤ first_name (labels_of (defined_in text k.from)) name
-            low (yes m) = absurd ((h.known r).none j (first_name (labels_of (defined_in text k.from)) name) l m (first.here (omega (arith, m, size, h.few)) ∙ sym here))
+            low (yes m) = absurd ((h.known d r).none j (first_name (labels_of (defined_in text k.from)) name) l m (first.here (omega (arith, m, size, h.few)) ∙ sym here))
             low (no m) = omega arith
 
-        by : Dec (j ≡ k.double) → eqb j k.double ≡ ltb (first_name (labels_of (defined_in text k.from)) name) j
+        by : Dec (j ≡ d) → eqb j d ≡ ltb (first_name (labels_of (defined_in text k.from)) name) j
         by (yes e) =
-            let w = (h.known r).here (omega (arith, e, h.few)) in
-            eq-eqb j k.double e
+            let w = (h.known d r).here (omega (arith, e, h.few)) in
+            eq-eqb j d e
             ∙ sym (lt-ltb (first_name (labels_of (defined_in text k.from)) name) j (sooner w.0 (omega (arith, w.1, e)) (w.2 ∙ ap (λ (i : ℕ). get_or (labels_of (defined_in text k.from)) i []) (sym e) ∙ here)))
-        by (no e) = ne_eqb j k.double e ∙ sym (le-ltb (first_name (labels_of (defined_in text k.from)) name) j (later (let s = h.single r in omega arith)))
+        by (no e) = ne_eqb j d e ∙ sym (le-ltb (first_name (labels_of (defined_in text k.from)) name) j (later (let s = h.single d r in omega arith)))
 
     -- and where it did not, the first double is behind it
-    pub single_next : ltb (first_name (labels_of (defined_in text k.from)) name) j ≡ false → j + 1 ≤ k.double
-    single_next e = let q = eqb-false j k.double (double_is ∙ e) in let s = h.single r in omega arith
+    pub single_next : ltb (first_name (labels_of (defined_in text k.from)) name) j ≡ false → j + 1 ≤ d
+    single_next e = let q = eqb-false j d (double_is ∙ e) in let s = h.single d r in omega arith
 
 -- ---- words behind a label
 

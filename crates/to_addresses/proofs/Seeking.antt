@@ -7,6 +7,7 @@ use mathlib.Core.List.{List, [], ◌∷◌}
 use native.Mathlib.Omega.{arith}
 use borrow.Author.Tests.{eq-eqb, ne_eqb}
 use lib.ListN.{length, get_or, get_or-eq_default, length-map}
+use Rattle.std.specs.Prelude.{Some}
 use Rattle.instruction.specs.Bits.{pick}
 use Rattle.text.specs.Cut.{line_feed, place_of, row_at, fields_in, same_text}
 use Rattle.text.proofs.Bools.{both, never}
@@ -134,12 +135,12 @@ label_at [] j = refl
 label_at (d ∷ ds) zero = refl
 label_at (d ∷ ds) (suc j) = label_at ds j
 
-module _ (text keys table : List ℕ) {k : Known} (h : Knows text keys table k) (r : k.ready ≡ true) where
+module _ (text keys table : List ℕ) {k : Known} (h : Knows text keys table k) {d : ℕ} (r : k.double ≡ Some d) where
   module _ (name : List ℕ) (n : is_label name ≡ true) {x : Key} (e : x ≡ key_of name) {first : ℕ} (f : first ≡ seek_of keys table x) where
     first_is : first ≡ first_name (labels_of (defined_in text k.from)) name
     first_is =
         f ∙ ap (seek_of keys table) e
-        ∙ label_found (labels_of (defined_in text k.from)) keys (h.holds r) name (seek_of keys table (key_of name)) n (found keys table (h.looked r) (key_of name))
+        ∙ label_found (labels_of (defined_in text k.from)) keys (h.holds d r) name (seek_of keys table (key_of name)) n (found keys table (h.looked d r) (key_of name))
 
     means_is : (get_or (defined_in text k.from) first nothing).means ≡ meaning_in (defined_in text k.from) name
     means_is = ap (λ (j : ℕ). (get_or (defined_in text k.from) j nothing).means) first_is ∙ sym (meaning_first (defined_in text k.from) name)
@@ -148,11 +149,11 @@ module _ (text keys table : List ℕ) {k : Known} (h : Knows text keys table k) 
     sought_none l =
         record {
           first = first_is;
-          means = sym (ap (λ (d : Definition). d.means) (get_or-eq_default (defined_in text k.from) nothing {n = first} (omega (arith, l, (h.holds r).many, labels_length (defined_in text k.from))))) ∙ means_is;
+          means = sym (ap (λ (d : Definition). d.means) (get_or-eq_default (defined_in text k.from) nothing {n = first} (omega (arith, l, (h.holds d r).many, labels_length (defined_in text k.from))))) ∙ means_is;
         }
 
     pub sought_here : first < count keys → {means : ℕ} → means ≡ means_at keys first → Sought (defined_in text k.from) name (record { first = first; means = means })
-    sought_here l e = record { first = first_is; means = e ∙ h.means r first l ∙ means_is }
+    sought_here l e = record { first = first_is; means = e ∙ h.means d r first l ∙ means_is }
 
 -- whether a line defines a label, as it is told
 module _ (text : List ℕ) (end : ℕ) (line : Defining) (name : List ℕ) where

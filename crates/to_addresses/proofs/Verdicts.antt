@@ -11,6 +11,7 @@ use borrow.Author.Tests.{eq-eqb, ne_eqb, le-leb, lt-leb}
 use lib.Dec.{ltb, leb}
 use lib.ListN.{length, get_or, set, length-append, length-set}
 use lib.Seq.{get_or-set_same, get_or-set_other}
+use Rattle.std.specs.Prelude.{Some}
 use Rattle.instruction.specs.Bits.{pick}
 use Rattle.instruction.specs.Form.{filled}
 use Rattle.text.specs.Cut.{line_feed, place_of, Row, row_at, fields_in}
@@ -23,7 +24,7 @@ use Rattle.editions.specs.Told.{shape_two, RoomFor, Takes}
 use Rattle.editions.specs.declared.Room.{Room}
 use Rattle.editions.proofs.Rooms.{takes_none}
 use Rattle.editions.proofs.Two.{good_defines}
-use Rattle.to_addresses.specs.Moving.{rows_from, defined_in, word_count, start, passed_by, Along, Knows, Stands, label_number_at, moved_line, note_count, start_in, stop_in, means_in, next_in, behind_in, kept_note, Note, NoteIn, Notes, Weighs, Judges}
+use Rattle.to_addresses.specs.Moving.{rows_from, defined_in, word_count, start, passed_by, Along, Knows, Stands, label_number_at, moved_line, note_count, start_in, stop_in, means_in, next_in, behind_in, kept_note, Note, NoteIn, Notes, Weighs, BadLine, GoodLines}
 use Rattle.to_addresses.specs.declared.Known.{Known}
 use Rattle.to_addresses.specs.declared.Passed.{Passed}
 use Rattle.to_addresses.specs.declared.Weighed.{Weighed}
@@ -189,7 +190,7 @@ kept_full notes a at told next m = by told.label
 -- the lines so far are good, and what they move to fits or not
 pub record Judging (text : List ℕ) (k : Known) (room₀ : Room) (at : ℕ) (past : Passed) (room : Room) (notes : List ℕ) : Type 0 where
   pub along : Along text k.from at past
-  pub single : k.ready ≡ true → past.labels ≤ k.double
+  pub single : (d : ℕ) → k.double ≡ Some d → past.labels ≤ d
   pub before : List (List ℕ)
   pub prior : Before (labels_of (defined_in text k.from)) past.labels before
   pub same : judged_two (labels_of (defined_in text k.from)) before (past.labels + past.words + 2) (rows_from text at) ≡ judged_two (labels_of (defined_in text k.from)) [] 2 (rows_from text k.from)
@@ -205,7 +206,7 @@ module _ (text keys table : List ℕ) (k : Known) (room₀ : Room) (kn : Knows t
   judging_start notes =
       record {
         along = along_start text k.from;
-        single = λ r. omega arith;
+        single = λ d r. omega arith;
         before = [];
         prior = before_none (labels_of (defined_in text k.from));
         same = refl;
@@ -217,18 +218,18 @@ module _ (text keys table : List ℕ) (k : Known) (room₀ : Room) (kn : Knows t
       }
 
   module _ {at : ℕ} {past : Passed} {room : Room} {notes : List ℕ} (j : Judging text k room₀ at past room notes) where
-    pub judging_end : length text ≤ at → Judges text k.from room₀ notes (record { number = 0; line = 0; room = room })
+    pub judging_end : length text ≤ at → GoodLines text k.from room₀ notes room
     judging_end l =
         record {
           told =
               sym (judged_none (labels_of (defined_in text k.from)) j.before (past.labels + past.words + 2))
               ∙ ap (judged_two (labels_of (defined_in text k.from)) j.before (past.labels + past.words + 2)) (sym (rows_none text at l))
               ∙ j.same;
-          left = λ z all before h.
+          takes = λ all before h.
               subst (λ (n : ℕ). RoomFor all n room)
               (omega (arith, j.rest, ap length (ap (addressed_from (defined_in text k.from) past.words) (rows_none text at l) ∙ addressed_none (defined_in text k.from) past.words)))
               (j.takes all before h);
-          kept = λ z a m. j.kept a (omega (arith, m, along_words text k.from j.along l));
+          kept = λ a m. j.kept a (omega (arith, m, along_words text k.from j.along l));
         }
 
     module _ (h : at < length text) {end : ℕ} (f : end ≡ place_of line_feed at text) where
@@ -251,15 +252,14 @@ module _ (text keys table : List ℕ) (k : Known) (room₀ : Room) (kn : Knows t
         told_now = ap (judged_two (labels_of (defined_in text k.from)) j.before (past.labels + past.words + 2)) (sym (rows_next text at f h)) ∙ j.same
 
         pub judging_bad : (r.number ≡ 0 → ⊥)
-            → Judges text k.from room₀ notes (record { number = r.number; line = past.labels + past.words + 2; room = room })
+            → BadLine text k.from (record { number = r.number; line = past.labels + past.words + 2 })
         judging_bad z =
             record {
               told =
                   ap (λ (n : ℕ). refused_at n (past.labels + past.words + 2)) (sym number)
                   ∙ sym (judged_bad (labels_of (defined_in text k.from)) j.before (past.labels + past.words + 2) (row_at text at end) (rows_from text (end + 1)) (λ q. z (sym number ∙ q)))
                   ∙ told_now;
-              left = λ q. absurd (z q);
-              kept = λ q. absurd (z q);
+              some = z;
             }
 
         module _ (z : r.number ≡ 0) where
@@ -292,7 +292,7 @@ module _ (text keys table : List ℕ) (k : Known) (room₀ : Room) (kn : Knows t
               = ap (λ (u : Bool). pick u (label_number_at (labels_of (defined_in text k.from)) k.words past (label_in (fields_in (row_at text at end)))) (word_number (labels_of (defined_in text k.from)) (fields_in (row_at text at end)))) (sym e) ∙ both_zero.1 in
               record {
                 along = past_label text k.from j.along h f d;
-                single = λ q. single_next text k past.labels (label_in (fields_in (row_at text at end))) t q
+                single = λ d q. single_next text k past.labels (label_in (fields_in (row_at text at end))) t q
                     (not_twice (ltb (first_name (labels_of (defined_in text k.from)) (label_in (fields_in (row_at text at end)))) past.labels) (leb k.words past.words) one);
                 before = label_in (fields_in (row_at text at end)) ∷ j.before;
                 prior = before_more (labels_of (defined_in text k.from)) past.labels (label_in (fields_in (row_at text at end))) (omega (arith, t.few, labels_length (defined_in text k.from))) (label_at (defined_in text k.from) past.labels ∙ t.is) j.before j.prior;

@@ -1,5 +1,5 @@
 -- What the functions of the move ask and promise, line by line and over all lines: it carries the code, and needs no belief.
-use Rattle.std.specs.Prelude.{ℕ, zero, suc, ◌+◌, ◌-◌, ◌*◌, ◌/◌, ◌^◌, ◌≤◌, ◌<◌, ◌≡◌, Bool, true, false, not, List, [], ◌∷◌, ◌++◌, eqb, ltb, leb, length, get_or, set, take, drop}
+use Rattle.std.specs.Prelude.{ℕ, zero, suc, ◌+◌, ◌-◌, ◌*◌, ◌/◌, ◌^◌, ◌≤◌, ◌<◌, ◌≡◌, Bool, true, false, not, List, [], ◌∷◌, ◌++◌, eqb, ltb, leb, length, get_or, set, take, drop, Some}
 use Rattle.instruction.specs.Bits.{pick, ◌gives◌else◌}
 use Rattle.instruction.specs.Form.{filled}
 use Rattle.buffer.specs.Put.{Fits, Put}
@@ -17,7 +17,7 @@ use Rattle.editions.specs.declared.Moved.{Moved}
 use Rattle.editions.specs.declared.Room.{Room}
 use Rattle.to_addresses.specs.declared.Defining.{Defining}
 use Rattle.to_addresses.specs.declared.Found.{Found}
-use Rattle.to_addresses.specs.declared.Judged.{Judged}
+use Rattle.text.specs.declared.Refused.{Refused}
 use Rattle.to_addresses.specs.declared.Known.{Known}
 use Rattle.to_addresses.specs.declared.Laid.{Laid}
 use Rattle.to_addresses.specs.declared.Passed.{Passed}
@@ -118,17 +118,17 @@ pub record Sought (ds : List Definition) (name : List ℕ) (r : Found) : Type 0 
 pub record Knows (text keys table : List ℕ) (k : Known) : Type 0 where
   pub labels : k.labels ≡ length (defined_in text k.from)
   pub words : k.words ≡ word_count (rows_from text k.from)
-  pub holds : k.ready ≡ true → Holds (labels_of (defined_in text k.from)) keys
-  pub means : k.ready ≡ true → (j : ℕ) → j < count keys → means_at keys j ≡ (get_or (defined_in text k.from) j nothing).means
-  pub looked : k.ready ≡ true → Looked keys table
-  pub double : k.ready ≡ true → IsDouble (λ i. get_or (labels_of (defined_in text k.from)) i []) (length (defined_in text k.from)) k.double
+  pub holds : (d : ℕ) → k.double ≡ Some d → Holds (labels_of (defined_in text k.from)) keys
+  pub means : (d : ℕ) → k.double ≡ Some d → (j : ℕ) → j < count keys → means_at keys j ≡ (get_or (defined_in text k.from) j nothing).means
+  pub looked : (d : ℕ) → k.double ≡ Some d → Looked keys table
+  pub double : (d : ℕ) → k.double ≡ Some d → IsDouble (λ i. get_or (labels_of (defined_in text k.from)) i []) (length (defined_in text k.from)) d
 
 -- ---- judging a line
 
 -- label j is this one, and none before it stood before
 pub record Twice (text : List ℕ) (k : Known) (j : ℕ) (name : List ℕ) : Type 0 where
-  pub known : k.ready ≡ true → IsDouble (λ i. get_or (labels_of (defined_in text k.from)) i []) (length (defined_in text k.from)) k.double
-  pub single : k.ready ≡ true → j ≤ k.double
+  pub known : (d : ℕ) → k.double ≡ Some d → IsDouble (λ i. get_or (labels_of (defined_in text k.from)) i []) (length (defined_in text k.from)) d
+  pub single : (d : ℕ) → k.double ≡ Some d → j ≤ d
   pub few : j < length (defined_in text k.from)
   pub is : (get_or (defined_in text k.from) j nothing).called ≡ name
 
@@ -136,7 +136,7 @@ pub record Twice (text : List ℕ) (k : Known) (j : ℕ) (name : List ℕ) : Typ
 pub record Stands (text keys table : List ℕ) (k : Known) (at end : ℕ) (past : Passed) : Type 0 where
   pub knows : Knows text keys table k
   pub along : Along text k.from at past
-  pub single : k.ready ≡ true → past.labels ≤ k.double
+  pub single : (d : ℕ) → k.double ≡ Some d → past.labels ≤ d
   pub here : at < length text
   pub ends : end ≡ place_of line_feed at text
 
@@ -225,11 +225,16 @@ pub record Weighs (text : List ℕ) (k : Known) (at end : ℕ) (past : Passed) (
   pub left : r.number ≡ 0 → Takes room (length (moved_line (defined_in text k.from) past.words (row_at text at end))) r.room
   pub word : r.number ≡ 0 → is_label_line (fields_in (row_at text at end)) ≡ false → WordIs text k at end past r
 
--- the first bad line, or the room that what they move to leaves
-pub record Judges (text : List ℕ) (from : ℕ) (room : Room) (notes : List ℕ) (r : Judged) : Type 0 where
+-- the first bad line
+pub record BadLine (text : List ℕ) (from : ℕ) (r : Refused) : Type 0 where
   pub told : refused_at r.number r.line ≡ judged_two (labels_of (defined_in text from)) [] 2 (rows_from text from)
-  pub left : r.number ≡ 0 → Takes room (length (addressed_from (defined_in text from) 0 (rows_from text from))) r.room
-  pub kept : r.number ≡ 0 → Notes text from notes (word_count (rows_from text from))
+  pub some : r.number ≡ 0 → ⊥
+
+-- or the room that what they move to leaves
+pub record GoodLines (text : List ℕ) (from : ℕ) (room : Room) (notes : List ℕ) (left : Room) : Type 0 where
+  pub told : refused_at 0 0 ≡ judged_two (labels_of (defined_in text from)) [] 2 (rows_from text from)
+  pub takes : Takes room (length (addressed_from (defined_in text from) 0 (rows_from text from))) left
+  pub kept : Notes text from notes (word_count (rows_from text from))
 
 -- ---- writing
 

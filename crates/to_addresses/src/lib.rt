@@ -2,22 +2,24 @@
 // Labels are collected, then every line is judged, and then all is written, so that the buffer has the whole text or is as it was.
 #![tactic(auto)]
 
-ghost use Rattle.std.specs.Prelude.{◌≡◌, true, ◌&&◌, [], ◌∷◌, ◌++◌, ◌≤◌, ◌<◌, ◌+◌, ltb, length};
+ghost use Rattle.std.specs.Prelude.{◌≡◌, true, ◌&&◌, [], ◌∷◌, ◌++◌, ◌≤◌, ◌<◌, ◌+◌, ltb, length, IfSome, MatchResult};
 ghost use Rattle.buffer.specs.Put.{Fits, Put};
 ghost use Rattle.text.specs.Cut.{tab, line_feed, place_of, same_text};
 ghost use Rattle.text.specs.Line.{decimal};
 ghost use Rattle.label.specs.Label.{is_label};
 ghost use Rattle.label.specs.First.{first_name};
+ghost use Rattle.label.specs.Key.{count, Seen};
 ghost use Rattle.editions.specs.Moves.{labels_of, addressed_from, ToAddresses};
-ghost use Rattle.to_addresses.specs.Moving.{rows_from, defined_in, label_to, Few, passed_by, defines_in, Labelled, DefinesAt, kept_label, collected_row, Collected, Sought, Knows, Twice, Stands, label_number_at, weighed_jump, Weighs, kept_note, Judges, Layable, LaysRow, Noted, LaysNoted, LayableFrom, LayableAll, Parts, Finishes};
+ghost use Rattle.to_addresses.specs.Moving.{rows_from, defined_in, label_to, Few, passed_by, defines_in, Labelled, DefinesAt, kept_label, collected_row, Collected, Sought, Knows, Twice, Stands, label_number_at, weighed_jump, Weighs, kept_note, BadLine, GoodLines, Layable, LaysRow, Noted, LaysNoted, LayableFrom, LayableAll, Parts, Finishes};
 
+use buffer::lay;
 use editions::{LineTwo, Moved, Room, glance_two, kind_of, label_from, row_two};
-use label::index::{Sight, Table, means_at, prepare, seek};
+use label::index::{Table, means_at, prepare, seek};
 use label::{Key, pack};
 use listing::{Listing, put_header};
 use listing_reader::{ReadBack, header_end};
-use page::{digit_count, put_byte, put_end, put_number, put_text};
-use text::{find, same};
+use page::{digit_count, put_byte, put_end, put_number};
+use text::{Refused, find, same};
 
 #[derive(Clone, Copy)]
 pub struct Addresses;
@@ -150,6 +152,7 @@ fn collect(text: &[u8], from: usize, keys: &mut [u64]) -> Passed
         labels: 0,
         words: 0,
     };
+    // No index is counted: where the next line stands is found on the way.
     while at < text.len() {
         let end = find(text, at, b'\n');
         let line = defined_at(text, at, end);
@@ -188,6 +191,7 @@ fn scan(text: &[u8], from: usize, name: &[u8]) -> Found
         labels: 0,
         words: 0,
     };
+    // No index is counted: where the next line stands is found on the way.
     while at < text.len() {
         let end = find(text, at, b'\n');
         let line = defined_at(text, at, end);
@@ -206,13 +210,12 @@ fn scan(text: &[u8], from: usize, name: &[u8]) -> Found
     }
 }
 
-// What is known of a text's labels: where its lines begin, whether the table is to be used, the first label that stood before if it is,
+// What is known of a text's labels: where its lines begin, the first label that stood before if the table is to be used,
 // and how many labels and words there are.
 #[derive(Clone, Copy)]
 struct Known {
     from: usize,
-    ready: bool,
-    double: usize,
+    double: Option<usize>,
     labels: usize,
     words: usize,
 }
@@ -222,9 +225,9 @@ fn find_label(text: &[u8], keys: &[u64], table: &[u32], known: Known, name: &[u8
     requires { Knows text.now keys.now table.now known × (is_label name.now ≡ true) }
     ensures { Sought (defined_in text.now known.from) name.now result }
 {
-    if !known.ready {
+    let Some(_) = known.double else {
         return scan(text, known.from, name);
-    }
+    };
     let k = pack(name);
     let first = seek(keys, table, k);
     if keys.len() / Table::NUMBERS <= first {
@@ -239,11 +242,10 @@ fn is_doubled(text: &[u8], known: Known, j: usize, name: &[u8]) -> bool
     requires { Twice text.now known j name.now }
     ensures { result ≡ ltb (first_name (labels_of (defined_in text.now known.from)) name.now) j }
 {
-    if known.ready {
-        return j == known.double;
+    match known.double {
+        Some(double) => j == double,
+        None => scan(text, known.from, name).first < j,
     }
-    let found = scan(text, known.from, name);
-    found.first < j
 }
 
 // What is wrong with a label line that has its shape.
@@ -357,14 +359,6 @@ fn weigh(
     }
 }
 
-// What is told of all lines: 0 and the room that they leave, or the number of the first bad one and its line.
-#[derive(Clone, Copy)]
-struct Judged {
-    number: u64,
-    line: u64,
-    room: Room,
-}
-
 // A note of word a kept, where there is room; a label line has no word.
 fn keep_note(notes: &mut [u64], a: usize, at: usize, told: Weighed, next: usize)
     ensures { notes.new ≡ kept_note notes.old a at told next }
@@ -390,9 +384,9 @@ fn judge(
     known: Known,
     notes: &mut [u64],
     room: Room,
-) -> Judged
+) -> Result<Room, Refused>
     requires { Knows text.now keys.now table.now known × (2 ≤ known.from) }
-    ensures { Judges text.now known.from room notes.new result }
+    ensures { MatchResult result (GoodLines text.now known.from room notes.new) (BadLine text.now known.from) }
 {
     let mut at = known.from;
     let mut past = Passed {
@@ -400,16 +394,16 @@ fn judge(
         words: 0,
     };
     let mut left = room;
+    // No index is counted: where the next line stands is found on the way.
     while at < text.len() {
         let end = find(text, at, b'\n');
         let told = weigh(text, keys, table, known, at, end, past, left);
         if told.number != 0 {
             let line = (past.labels + past.words) as u64 + ReadBack::FIRST_LINE;
-            return Judged {
+            return Err(Refused {
                 number: told.number,
                 line,
-                room: left,
-            };
+            });
         }
         let next = end + 1;
         keep_note(notes, past.words, at, told, next);
@@ -417,11 +411,7 @@ fn judge(
         past = pass(past, told.label, true);
         at = next;
     }
-    Judged {
-        number: 0,
-        line: 0,
-        room: left,
-    }
+    Ok(left)
 }
 
 // A word's address, and the tab behind it.
@@ -439,7 +429,7 @@ fn put_plain(out: &mut [u8], at: usize, a: u64, line: &[u8]) -> usize
     ensures { Put ((decimal a ++ (tab ∷ [])) ++ (line.now ++ (line_feed ∷ []))) out.old at out.new result }
 {
     let next = put_address(out, at, a);
-    let end = put_text(out, next, line);
+    let end = lay(out, next, line);
     put_end(out, end)
 }
 
@@ -458,7 +448,7 @@ fn put_jump(out: &mut [u8], at: usize, a: u64, front: &[u8], means: u64) -> usiz
     ensures { Put ((decimal a ++ (tab ∷ [])) ++ (front.now ++ (decimal means ++ (line_feed ∷ [])))) out.old at out.new result }
 {
     let next = put_address(out, at, a);
-    let end = put_text(out, next, front);
+    let end = lay(out, next, front);
     put_target(out, end, means)
 }
 
@@ -545,6 +535,7 @@ fn put_others(
     ensures { Put (addressed_from (defined_in text.now known.from) start.words (rows_from text.now start.at)) out.old start.place out.new result }
 {
     let mut laid = start;
+    // No index is counted: where the next line stands is found on the way.
     while laid.at < text.len() {
         laid = put_row(text, keys, table, known, out, laid);
     }
@@ -564,57 +555,58 @@ fn put_rows(
     requires { LayableAll text.now keys.now table.now known notes.now out.old start }
     ensures { Put (addressed_from (defined_in text.now known.from) 0 (rows_from text.now known.from)) out.old start out.new result }
 {
-    let noted = least(known.words, notes.len() / Addresses::NOTE);
+    let noted = known.words.min(notes.len() / Addresses::NOTE);
     let mut laid = Laid {
         at: known.from,
         place: start,
         words: 0,
     };
-    while laid.words < noted {
+    for _ in 0..noted {
         laid = put_noted(text, notes, out, laid);
     }
     put_others(text, keys, table, known, out, laid)
 }
 
-// All of it, once the labels are collected: the labels' list is used where it has them all.
+// The first label that stood before, where the list has all labels and the table is to be used.
+fn first_double(keys: &[u64], labels: usize, table: &mut [u32]) -> Option<usize>
+    ensures { IfSome result (λ d. Seen keys.now table.new d × (count keys.now ≡ labels)) }
+{
+    if keys.len() / Table::NUMBERS != labels {
+        return None;
+    }
+    prepare(keys, table)
+}
+
+// All of it, once the labels are collected.
 fn finish(text: &[u8], from: usize, keys: &[u64], end: Passed, out: &mut [u8]) -> Moved
     requires { Parts text.now from keys.now end }
     ensures { Finishes text.now from out.old out.new result }
 {
     let mut table = [Table::EMPTY; Table::SLOTS];
-    let sight = prepare(keys, &mut table);
+    let double = first_double(keys, end.labels, &mut table);
     let known = Known {
         from,
-        ready: sight.ready & (keys.len() / Table::NUMBERS == end.labels),
-        double: sight.double,
+        double,
         labels: end.labels,
         words: end.words,
     };
     let room = Room::behind(out.len(), from);
     let mut notes = [1u64; Addresses::NOTE * Addresses::NOTES];
-    let judged = judge(text, keys, &table, known, &mut notes, room);
-    if judged.number != 0 {
-        return Moved::refused(judged.number, judged.line);
+    match judge(text, keys, &table, known, &mut notes, room) {
+        Err(bad) => Moved::refused(bad.number, bad.line),
+        Ok(left) => {
+            if left.left == 0 {
+                return Moved::refused(ReadBack::NO_ROOM, 0);
+            }
+            let start = put_header(out, Listing::EDITION);
+            let size = put_rows(text, keys, &table, known, &notes, out, start);
+            Moved {
+                number: 0,
+                line: 0,
+                size: size as u64,
+            }
+        }
     }
-    if judged.room.left == 0 {
-        return Moved::refused(ReadBack::NO_ROOM, 0);
-    }
-    let start = put_header(out, Listing::EDITION);
-    let size = put_rows(text, keys, &table, known, &notes, out, start);
-    Moved {
-        number: 0,
-        line: 0,
-        size: size as u64,
-    }
-}
-
-fn least(a: usize, b: usize) -> usize
-    ensures { (result ≤ a) × (result ≤ b) }
-{
-    if a < b {
-        return a;
-    }
-    b
 }
 
 // A listing with addresses: whole in front of the buffer, or a refusal and the buffer as it was.
@@ -622,12 +614,11 @@ fn least(a: usize, b: usize) -> usize
 pub fn to_addresses(text: &[u8], out: &mut [u8]) -> Moved
     ensures { ToAddresses text.now out.old out.new result }
 {
-    let from = header_end(text, Listing::LABELLED);
-    if from == 0 {
+    let Some(from) = header_end(text, Listing::LABELLED) else {
         return Moved::refused(ReadBack::NO_HEADER, 1);
-    }
+    };
     let mut keys = [1u64; Addresses::NUMBERS];
     let end = collect(text, from, &mut keys);
-    let n = Table::NUMBERS * least(end.labels, Table::LABELS);
+    let n = Table::NUMBERS * end.labels.min(Table::LABELS);
     finish(text, from, &keys[..n], end, out)
 }

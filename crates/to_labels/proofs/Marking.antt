@@ -16,7 +16,7 @@ use Rattle.editions.specs.Told.{nowhere, final_from, taken, Takes, TellsOne}
 use Rattle.editions.specs.declared.LineOne.{LineOne}
 use Rattle.editions.specs.declared.Room.{Room}
 use Rattle.editions.proofs.Rooms.{takes_none, takes_more}
-use Rattle.to_labels.specs.Loops.{TellsRow, is_plain, Named, PartsOf, parts_by, PartsFit, place_at, kept_note, Notes, named_size, marked_of, Ready, JudgesLines}
+use Rattle.to_labels.specs.Loops.{TellsRow, is_plain, Named, PartsOf, parts_by, PartsFit, place_at, kept_note, Notes, named_size, marked_of, Ready, BadLine, GoodLines}
 use Rattle.to_labels.specs.declared.Parts.{Parts}
 use Rattle.to_labels.proofs.Judging.{row_tells, row_size, judged_next, judged_bad, judged_none}
 use Rattle.to_labels.proofs.Marks.{MarkedYet, yet_start, yet_end, yet_next, marked_length}
@@ -56,14 +56,14 @@ module _ (n : ℕ) (text : List ℕ) (from : ℕ) (given : Room) (before kept : 
       }
 
   module _ {a at : ℕ} {marks notes : List ℕ} {room : Room} (j : JudgingLines n text from given before kept a at marks notes room) where
-    pub judging_end : length text ≤ at → JudgesLines n text from given marks notes (record { number = 0; line = 0; room = room })
+    pub judging_end : length text ≤ at → GoodLines n text from given marks notes room
     judging_end h =
         record {
           told = sym (sym j.told ∙ ap (judged_one n a) e ∙ judged_none n a);
-          room = λ z. subst (λ (k : ℕ). Takes given k room) (whole j.size (named_size (rows_in (drop at text))) (named_size rows) j.sum (ap named_size e)) j.takes;
+          room = subst (λ (k : ℕ). Takes given k room) (whole j.size (named_size (rows_in (drop at text))) (named_size rows) j.sum (ap named_size e)) j.takes;
           size = j.same ∙ ready.size;
-          marked = λ z. yet_end 0 rows (rows_in (drop at text)) marks j.yet e;
-          noted = λ z. subst (Notes text from notes) all j.noted;
+          marked = yet_end 0 rows (rows_in (drop at text)) marks j.yet e;
+          noted = subst (Notes text from notes) all j.noted;
         }
       where
         e : rows_in (drop at text) ≡ []
@@ -95,14 +95,11 @@ module _ (n : ℕ) (text : List ℕ) (from : ℕ) (given : Room) (before kept : 
       next = ap (judged_one n a) (sym e) ∙ j.told
 
       module _ {told : LineOne} (t : TellsRow n a row told) where
-        pub judging_bad : (told.number ≡ 0 → ⊥) → {spent : Room} → JudgesLines n text from given marks notes (record { number = told.number; line = a + 2; room = spent })
+        pub judging_bad : (told.number ≡ 0 → ⊥) → BadLine n text from (record { number = told.number; line = a + 2 })
         judging_bad p =
             record {
               told = ap (λ (k : ℕ). refused_at k (a + 2)) t.number ∙ sym (judged_bad n a row rest (λ q. p (t.number ∙ q))) ∙ next;
-              room = λ z. absurd (p z);
-              size = j.same ∙ ready.size;
-              marked = λ z. absurd (p z);
-              noted = λ z. absurd (p z);
+              some = p;
             }
 
         module _ (z : told.number ≡ 0) where

@@ -47,19 +47,9 @@ module _ (base target : ℕ) (marks : List ℕ) where
 pub clear_marks : (n base : ℕ) → Marked [] base (replicate n 0)
 clear_marks n base a h = ap filled (get_or-replicate n a 0 0 (omega (arith, length-replicate {A = ℕ} n 0)))
 
--- those before a place are clear
-abbrev pub ClearTo : ℕ → List ℕ → Type 0
-ClearTo i marks = (b : ℕ) → b < i → get_or marks b 0 ≡ 0
-
-pub clear_next : (marks : List ℕ) (i : ℕ) → ClearTo i marks → i < length marks → ClearTo (i + 1) (set marks i 0)
-clear_next marks i c h b l = by (ℕ_discrete b i)
-  where
-    by : Dec (b ≡ i) → get_or (set marks i 0) b 0 ≡ 0
-    by (yes e) = ap (λ (k : ℕ). get_or (set marks i 0) k 0) e ∙ get_or-set_same marks i 0 0 h
-    by (no e) = get_or-set_other marks i b 0 0 e ∙ c b (omega arith)
-
-pub clear_end : (marks : List ℕ) (i : ℕ) → ClearTo i marks → length marks ≤ i → Marked [] 0 marks
-clear_end marks i c h b l = ap filled (c b (omega arith))
+-- marks that are all cleared
+pub clear_filled : (n : ℕ) {marks : List ℕ} → marks ≡ replicate n 0 → Marked [] 0 marks
+clear_filled n {marks = marks} e b l = ap filled (ap (λ (l : List ℕ). get_or l b 0) e ∙ get_or-replicate n b 0 0 (omega (arith, l, ap length e, length-replicate {A = ℕ} n 0)))
 
 -- ---- marked so far
 

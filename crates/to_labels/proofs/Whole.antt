@@ -6,6 +6,7 @@ use mathlib.Core.Bool.{Bool, true}
 use mathlib.Core.List.{List}
 use native.Mathlib.Omega.{arith}
 use lib.ListN.{length, drop, replicate, length-replicate, length-append}
+use Rattle.std.specs.Prelude.{Some, None}
 use Rattle.instruction.specs.Bits.{pick}
 use Rattle.buffer.specs.Put.{Fits, Put}
 use Rattle.text.specs.Cut.{Row, rows_in}
@@ -18,8 +19,8 @@ use Rattle.editions.specs.declared.Moved.{Moved}
 use Rattle.editions.specs.declared.Room.{Room}
 use Rattle.editions.proofs.Whole.{refused_lines, passed_lines, moves_short, head_fits, lines_fit, moves_whole}
 use Rattle.editions.proofs.Rooms.{head_room}
-use Rattle.to_labels.specs.Loops.{mark_count, LabelsRoom, named_size, labels_size, LineCount, Ready, JudgesLines, Layable, labelled_lines, Passed, labelled_text}
-use Rattle.to_labels.specs.declared.Judged.{Judged}
+use Rattle.to_labels.specs.Loops.{mark_count, LabelsRoom, named_size, labels_size, LineCount, Ready, BadLine, GoodLines, Layable, labelled_lines, Passed, labelled_text}
+use Rattle.text.specs.declared.Refused.{Refused}
 use Rattle.to_labels.proofs.Marks.{clear_marks}
 use Rattle.to_labels.proofs.Placing.{labelled_size}
 
@@ -54,21 +55,21 @@ module _ (n : ℕ) (text : List ℕ) (from : ℕ) (marks notes before : List ℕ
 
 -- ---- judged first
 
-module _ (text before : List ℕ) {from : ℕ} (e : from ≡ pick (is_edition 1 text) (length (head_of 1)) 0) where
-  module _ (z : from ≡ 0) where
+module _ (text before : List ℕ) where
+  module _ (e : None ≡ pick (is_edition 1 text) (Some (length (head_of 1))) None) where
     judged_60 : lines_judged text ≡ refused_at 60 1
     unfolding lines_judged
-    judged_60 = ap (λ (t : Bool). pick t (judged_one (length (rows_behind 1 text)) 0 (rows_behind 1 text)) (refused_at 60 1)) (edition_not 1 text (omega arith) e z)
+    judged_60 = ap (λ (t : Bool). pick t (judged_one (length (rows_behind 1 text)) 0 (rows_behind 1 text)) (refused_at 60 1)) (edition_not 1 text e)
 
     pub no_header : {r : Moved} → r ≡ refused_at 60 1 → ToLabels text before before r
     no_header f = refused_lines (lines_judged text) (labelled text) before (λ q. omega (arith, ap (λ (x : Moved). x.number) judged_60, q)) (f ∙ sym judged_60)
 
-  module _ (h : from ≡ 0 → ⊥) where
+  module _ {from : ℕ} (e : Some from ≡ pick (is_edition 1 text) (Some (length (head_of 1))) None) where
     abbrev rows : List Row
     rows = rows_in (drop from text)
 
     headed : (is_edition 1 text ≡ true) × (from ≡ length (head_of 1))
-    headed = edition_is 1 text (omega arith) e h
+    headed = edition_is 1 text e
 
     rows_are : rows ≡ rows_behind 1 text
     rows_are = ap (λ (k : ℕ). rows_in (drop k text)) headed.1
@@ -87,28 +88,27 @@ module _ (text before : List ℕ) {from : ℕ} (e : from ≡ pick (is_edition 1 
       pub lines_ready : Ready n rows (replicate mark_count 0)
       lines_ready = record { lines = c; size = length-replicate {A = ℕ} mark_count 0; clear = clear_marks mark_count 0 }
 
-      module _ {room : Room} {marks notes : List ℕ} {judged : Judged} (j : JudgesLines n text from room marks notes judged) where
-        pub bad_line_lem : (judged.number ≡ 0 → ⊥) → {r : Moved} → r ≡ refused_at judged.number judged.line → ToLabels text before before r
-        bad_line_lem q f =
-            refused_lines (lines_judged text) (labelled text) before (λ z. q (ap (λ (x : Moved). x.number) told ∙ z)) (f ∙ told)
-          where
-            told : refused_at judged.number judged.line ≡ lines_judged text
-            told = j.told ∙ judged_is
+      pub bad_line_lem : {e : Refused} → BadLine n text from e → {r : Moved} → r ≡ refused_at e.number e.line → ToLabels text before before r
+      bad_line_lem {e = e} j f =
+          refused_lines (lines_judged text) (labelled text) before (λ z. j.some (ap (λ (x : Moved). x.number) told ∙ z)) (f ∙ told)
+        where
+          told : refused_at e.number e.line ≡ lines_judged text
+          told = j.told ∙ judged_is
 
-        module _ (z : judged.number ≡ 0) where
-          well : (judged_one n 0 rows).number ≡ 0
-          well = sym (ap (λ (x : Moved). x.number) j.told) ∙ z
+      module _ {room left : Room} {marks notes : List ℕ} (j : GoodLines n text from room marks notes left) where
+        well : (judged_one n 0 rows).number ≡ 0
+        well = sym (ap (λ (x : Moved). x.number) j.told)
 
-          pub lines_passed : room ≡ room_behind (length before) from → Passed n text from marks notes before judged.room
-          lines_passed r =
-              record {
-                known = record { all = record { lines = c; well = well }; size = j.size; marked = j.marked z };
-                noted = j.noted z;
-                head = headed.1 ∙ header_size 1 (omega arith) ∙ sym (header_size 2 (omega arith));
-                left = j.room z (length before) from (head_room (length before) from r);
-              }
+        pub lines_passed : room ≡ room_behind (length before) from → Passed n text from marks notes before left
+        lines_passed r =
+            record {
+              known = record { all = record { lines = c; well = well }; size = j.size; marked = j.marked };
+              noted = j.noted;
+              head = headed.1 ∙ header_size 1 (omega arith) ∙ sym (header_size 2 (omega arith));
+              left = j.room (length before) from (head_room (length before) from r);
+            }
 
-          pub good_lines : {after : List ℕ} {r : Moved} → Moves (moved 0) (labelled_text rows) before after r → ToLabels text before after r
-          good_lines {after = after} {r = r} m =
-              passed_lines (lines_judged text) (labelled text) before (sym (ap (λ (x : Moved). x.number) judged_is) ∙ well)
-              (subst (λ (l : List ℕ). Moves (moved 0) l before after r) text_is m)
+        pub good_lines : {after : List ℕ} {r : Moved} → Moves (moved 0) (labelled_text rows) before after r → ToLabels text before after r
+        good_lines {after = after} {r = r} m =
+            passed_lines (lines_judged text) (labelled text) before (sym (ap (λ (x : Moved). x.number) judged_is) ∙ well)
+            (subst (λ (l : List ℕ). Moves (moved 0) l before after r) text_is m)

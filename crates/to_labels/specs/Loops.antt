@@ -12,7 +12,7 @@ use Rattle.editions.specs.Moves.{refused_at, judged_one, targets_in, label_line,
 use Rattle.editions.specs.Told.{nowhere, aim_one, final_from, RoomFor, Takes}
 use Rattle.editions.specs.declared.LineOne.{LineOne}
 use Rattle.editions.specs.declared.Room.{Room}
-use Rattle.to_labels.specs.declared.Judged.{Judged}
+use Rattle.text.specs.declared.Refused.{Refused}
 use Rattle.to_labels.specs.declared.Parts.{Parts}
 
 -- ---- a line
@@ -154,13 +154,18 @@ pub record Ready (n : ℕ) (rows : List Row) (marks : List ℕ) : Type 0 where
   pub size : length marks ≡ mark_count
   pub clear : Marked [] 0 marks
 
--- the first bad line, or the room that the lines of words leave, with every target marked and a note of each word
-pub record JudgesLines (n : ℕ) (text : List ℕ) (from : ℕ) (given : Room) (marks notes : List ℕ) (r : Judged) : Type 0 where
+-- the first bad line
+pub record BadLine (n : ℕ) (text : List ℕ) (from : ℕ) (r : Refused) : Type 0 where
   pub told : refused_at r.number r.line ≡ judged_one n 0 (rows_in (drop from text))
-  pub room : r.number ≡ 0 → Takes given (named_size (rows_in (drop from text))) r.room
+  pub some : r.number ≡ 0 → ⊥
+
+-- or the room that the lines of words leave, with every target marked and a note of each word
+pub record GoodLines (n : ℕ) (text : List ℕ) (from : ℕ) (given : Room) (marks notes : List ℕ) (left : Room) : Type 0 where
+  pub told : refused_at 0 0 ≡ judged_one n 0 (rows_in (drop from text))
+  pub room : Takes given (named_size (rows_in (drop from text))) left
   pub size : length marks ≡ mark_count
-  pub marked : r.number ≡ 0 → Marked (targets_in (rows_in (drop from text))) 0 marks
-  pub noted : r.number ≡ 0 → Notes text from notes n
+  pub marked : Marked (targets_in (rows_in (drop from text))) 0 marks
+  pub noted : Notes text from notes n
 
 -- nothing is wrong with any line
 pub record Well (n : ℕ) (rows : List Row) : Type 0 where

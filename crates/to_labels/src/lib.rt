@@ -2,19 +2,20 @@
 // Every line is judged before the first byte is written, so that the buffer has the whole text or is as it was.
 #![tactic(auto)]
 
-ghost use Rattle.std.specs.Prelude.{◌≡◌, [], ◌∷◌, ◌++◌, ◌+◌, ◌-◌, ◌≤◌, ◌<◌, length, drop};
+ghost use Rattle.std.specs.Prelude.{◌≡◌, [], ◌∷◌, ◌++◌, ◌+◌, ◌-◌, ◌≤◌, ◌<◌, length, drop, MatchResult};
 ghost use Rattle.instruction.specs.Bits.{pick};
 ghost use Rattle.buffer.specs.Put.{Fits, Put};
 ghost use Rattle.text.specs.Cut.{line_feed, place_of, row_at, rows_in};
 ghost use Rattle.text.specs.Line.{letters};
 ghost use Rattle.editions.specs.Moves.{moved, Moves, label_line, ToLabels};
-ghost use Rattle.to_labels.specs.Loops.{TellsRow, is_plain, label_text, parts_text, InText, PartsOf, PartsFit, parts_by, kept_note, Movable, Noted, Marked, marked_of, LineCount, Ready, JudgesLines, Based, Known, Near, LabelsRoom, Layable, labelled_lines, Passed, labelled_text};
+ghost use Rattle.to_labels.specs.Loops.{TellsRow, is_plain, label_text, parts_text, InText, PartsOf, PartsFit, parts_by, kept_note, Movable, Noted, marked_of, LineCount, Ready, BadLine, GoodLines, Based, Known, Near, LabelsRoom, Layable, labelled_lines, Passed, labelled_text};
 
+use buffer::lay;
 use editions::{LineOne, Moved, Room, glance_one, last_field, line_one};
 use listing::{Listing, put_header};
 use listing_reader::{ReadBack, header_end};
-use page::{digit_count, put_byte, put_end, put_number, put_text};
-use text::find;
+use page::{digit_count, put_byte, put_end, put_number};
+use text::{Refused, find};
 
 #[derive(Clone, Copy)]
 pub struct Labels;
@@ -41,6 +42,7 @@ fn line_count(text: &[u8], from: usize) -> u64
 {
     let mut n: u64 = 0;
     let mut at = from;
+    // No index is counted: where the next line stands is found on the way.
     while at < text.len() {
         at = find(text, at, b'\n') + 1;
         n += 1;
@@ -127,14 +129,6 @@ fn keep_note(notes: &mut [u64], a: u64, parts: Parts)
     notes[from + 2] = parts.end as u64;
 }
 
-// What is told of all lines: 0 and the room that they leave, or the number of the first bad one and its line.
-#[derive(Clone, Copy)]
-struct Judged {
-    number: u64,
-    line: u64,
-    room: Room,
-}
-
 // The first bad line from a place on, or the room that the lines leave, with every target marked and a note of each word.
 fn judge_lines(
     text: &[u8],
@@ -143,23 +137,23 @@ fn judge_lines(
     marks: &mut [u8],
     notes: &mut [u64],
     room: Room,
-) -> Judged
+) -> Result<Room, Refused>
     requires { Ready n (rows_in (drop from text.now)) marks.old }
-    ensures { JudgesLines n text.now from room marks.new notes.new result }
+    ensures { MatchResult result (GoodLines n text.now from room marks.new notes.new) (BadLine n text.now from) }
 {
     let mut at = from;
     let mut a: u64 = 0;
     let mut left = room;
+    // No index is counted: where the next line stands is found on the way.
     while at < text.len() {
         let end = find(text, at, b'\n');
         let next = end + 1;
         let told = tell_line(text, at, end, a, n);
         if told.number != 0 {
-            return Judged {
+            return Err(Refused {
                 number: told.number,
                 line: a + ReadBack::FIRST_LINE,
-                room: left,
-            };
+            });
         }
         mark(marks, 0, told.target);
         left = left.take(named_size(next - at, told));
@@ -167,22 +161,7 @@ fn judge_lines(
         at = next;
         a += 1;
     }
-    Judged {
-        number: 0,
-        line: 0,
-        room: left,
-    }
-}
-
-// No address is marked.
-fn clear(marks: &mut [u8])
-    ensures { Marked [] 0 marks.new }
-{
-    let mut i: usize = 0;
-    while i < marks.len() {
-        marks[i] = 0;
-        i += 1;
-    }
+    Ok(left)
 }
 
 // The targets of all lines are marked anew, from a base on.
@@ -190,9 +169,10 @@ fn mark_from(text: &[u8], from: usize, n: u64, marks: &mut [u8], base: u64)
     requires { Based n (rows_in (drop from text.now)) base marks.old }
     ensures { Known n (rows_in (drop from text.now)) base marks.new }
 {
-    clear(marks);
+    marks.fill(0);
     let mut at = from;
     let mut a: u64 = 0;
+    // No index is counted: where the next line stands is found on the way.
     while at < text.len() {
         let end = find(text, at, b'\n');
         let told = tell_line(text, at, end, a, n);
@@ -232,9 +212,7 @@ fn room_for_labels(text: &[u8], from: usize, n: u64, marks: &mut [u8], room: Roo
 {
     let mut left = room;
     let mut base: u64 = 0;
-    let mut a = n;
-    while 0 < a {
-        a -= 1;
+    for a in (0..n).rev() {
         base = base_for(text, from, n, marks, base, a);
         let on = marks[(a - base) as usize] != 0;
         left = left.take(label_size(on, a));
@@ -247,7 +225,7 @@ fn put_label_line(out: &mut [u8], at: usize, a: u64) -> usize
     requires { Fits (label_line a) out.old at }
     ensures { Put (label_line a) out.old at out.new result }
 {
-    let from = put_text(out, at, b"label\tL");
+    let from = lay(out, at, b"label\tL");
     let end = put_number(out, from, a);
     put_end(out, end)
 }
@@ -268,7 +246,7 @@ fn put_last(out: &mut [u8], at: usize, text: &[u8]) -> usize
     requires { Fits (text.now ++ (line_feed ∷ [])) out.old at }
     ensures { Put (text.now ++ (line_feed ∷ [])) out.old at out.new result }
 {
-    let end = put_text(out, at, text);
+    let end = lay(out, at, text);
     put_end(out, end)
 }
 
@@ -277,7 +255,7 @@ fn put_jump(out: &mut [u8], at: usize, front: &[u8], target: &[u8]) -> usize
     requires { Fits (front.now ++ (letters "L" ++ (target.now ++ (line_feed ∷ [])))) out.old at }
     ensures { Put (front.now ++ (letters "L" ++ (target.now ++ (line_feed ∷ [])))) out.old at out.new result }
 {
-    let end = put_text(out, at, front);
+    let end = lay(out, at, front);
     let next = put_byte(out, end, b'L');
     put_last(out, next, target)
 }
@@ -358,6 +336,7 @@ fn put_lines(
     let mut a: u64 = 0;
     let mut base: u64 = 0;
     let mut place = start;
+    // No index is counted: where the next line stands is found on the way.
     while at < text.len() {
         let parts = parts_at(text, notes, at, a);
         base = base_for(text, from, n, marks, base, a);
@@ -400,17 +379,15 @@ fn finish(
 pub fn to_labels(text: &[u8], out: &mut [u8]) -> Moved
     ensures { ToLabels text.now out.old out.new result }
 {
-    let from = header_end(text, Listing::EDITION);
-    if from == 0 {
+    let Some(from) = header_end(text, Listing::EDITION) else {
         return Moved::refused(ReadBack::NO_HEADER, 1);
-    }
+    };
     let n = line_count(text, from);
     let room = Room::behind(out.len(), from);
     let mut marks = [0u8; Labels::MARKS];
     let mut notes = [1u64; Labels::NOTE * Labels::NOTES];
-    let judged = judge_lines(text, from, n, &mut marks, &mut notes, room);
-    if judged.number != 0 {
-        return Moved::refused(judged.number, judged.line);
+    match judge_lines(text, from, n, &mut marks, &mut notes, room) {
+        Ok(left) => finish(text, from, n, &mut marks, &notes, left, out),
+        Err(bad) => Moved::refused(bad.number, bad.line),
     }
-    finish(text, from, n, &mut marks, &notes, judged.room, out)
 }

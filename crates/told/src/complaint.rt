@@ -1,21 +1,16 @@
 // Why there is no answer, on standard error.
 // Each sentence begins with the name of the command, so that it stands apart where others write there too.
 use std::io::Error;
-use system::System;
+use system::{Reason, System};
 
-pub fn complain(system: System, text: &[u8]) {
-    system.complain(text);
-}
-
-pub fn complain_number(system: System, n: u64) {
-    system.complain_number(n);
-}
+// The error of what has said on standard error why there is no answer.
+#[derive(Clone, Copy, Debug)]
+pub struct Said;
 
 // What the system says of a file that cannot be opened, read or written.
-pub fn complain_of_file(system: System, path: &[u8], error: Error) {
-    complain(system, b"aps2: ");
-    complain(system, path);
-    complain(system, b": ");
-    system.complain_of(error);
-    complain(system, b"\n");
+pub fn complain_of_file(system: System, path: &[u8], error: Error) -> Said {
+    eprint!(system; "aps2: ");
+    system.eprint_bytes(path);
+    eprintln!(system; ": {}", Reason(error));
+    Said
 }

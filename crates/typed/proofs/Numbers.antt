@@ -14,7 +14,8 @@ use lib.Seq.{drop-cons}
 use Rattle.text.specs.Number.{between, is_digit, value_from, all_digits}
 use Rattle.text.proofs.Alike.{ended}
 use Rattle.typed.specs.Number.{some_digits, at_most, amount_of, capped}
-use Rattle.typed.specs.declared.Amount.TheVariants.{Is, NoNumber, TooLarge}
+use Rattle.std.specs.Prelude.{Ok, Err}
+use Rattle.typed.specs.declared.AmountError.TheVariants.{NoNumber, TooLarge}
 use Rattle.text.proofs.Bools.{both}
 
 pub in_between : (first last b : ℕ) → between first last b ≡ true → (first ≤ b) × (b ≤ last)
@@ -55,10 +56,10 @@ capped_from m v (b ∷ bs) =
     ∙ ap (λ (x : ℕ). capped m (value_from x bs)) (capped_digit m v (b - 48))
     ∙ capped_from m (v * 10 + (b - 48)) bs
 
-pub at_most_above : (m v : ℕ) → m < v → at_most m v ≡ TooLarge
+pub at_most_above : (m v : ℕ) → m < v → at_most m v ≡ Err TooLarge
 at_most_above m v h = rw (lt-ltb m v h)
 
-pub at_most_within : (m v : ℕ) → v ≤ m → at_most m v ≡ Is v
+pub at_most_within : (m v : ℕ) → v ≤ m → at_most m v ≡ Ok v
 at_most_within m v h = rw (le-ltb m v h)
 
 -- ---- digit by digit
@@ -93,7 +94,7 @@ module _ (most : ℕ) (text : List ℕ) (value i : ℕ) (h : i < length text) (r
             ∙ r.said;
       }
 
-  pub read_none : is_digit b ≡ false → NoNumber ≡ amount_of most text
+  pub read_none : is_digit b ≡ false → Err NoNumber ≡ amount_of most text
   read_none e = rw (r.digits ∙ ap all_digits rest ∙ ap (λ (t : Bool). t && all_digits (drop (i + 1) text)) e)
 
 module _ (most : ℕ) (text : List ℕ) (value i : ℕ) (h : length text ≤ i) (r : Read most text value i) where
@@ -106,22 +107,22 @@ module _ (most : ℕ) (text : List ℕ) (value i : ℕ) (h : length text ≤ i) 
   number : amount_of most text ≡ at_most most (value_from 0 text)
   number = rw digits
 
-  pub read_large : most < value → TooLarge ≡ amount_of most text
+  pub read_large : most < value → Err TooLarge ≡ amount_of most text
   read_large l = by (dec_lt most (value_from 0 text))
     where
-      by : Dec (most < value_from 0 text) → TooLarge ≡ amount_of most text
+      by : Dec (most < value_from 0 text) → Err TooLarge ≡ amount_of most text
       by (yes g) = sym (number ∙ at_most_above most (value_from 0 text) g)
       by (no g) = absurd (omega (arith, said, capped_above most value l, capped_within most (value_from 0 text) (omega arith)))
 
-  pub read_number : value ≤ most → Is value ≡ amount_of most text
+  pub read_number : value ≤ most → Ok value ≡ amount_of most text
   read_number l = by (dec_lt most (value_from 0 text))
     where
-      by : Dec (most < value_from 0 text) → Is value ≡ amount_of most text
+      by : Dec (most < value_from 0 text) → Ok value ≡ amount_of most text
       by (yes g) = absurd (omega (arith, said, capped_within most value l, capped_above most (value_from 0 text) g))
       by (no g) =
-          ap (λ (x : ℕ). Is x) (sym (capped_within most value l) ∙ said ∙ capped_within most (value_from 0 text) (omega arith))
+          ap (λ (x : ℕ). Ok x) (sym (capped_within most value l) ∙ said ∙ capped_within most (value_from 0 text) (omega arith))
           ∙ sym (number ∙ at_most_within most (value_from 0 text) (omega arith))
 
-pub read_empty : (most : ℕ) (text : List ℕ) → length text ≡ 0 → NoNumber ≡ amount_of most text
+pub read_empty : (most : ℕ) (text : List ℕ) → length text ≡ 0 → Err NoNumber ≡ amount_of most text
 read_empty most [] h = refl
 read_empty most (b ∷ bs) h = absurd (omega arith)

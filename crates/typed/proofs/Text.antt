@@ -2,7 +2,7 @@
 -- Assumes nothing.
 use Prim.Native.Nat.{ℕ, zero, suc, ◌+◌, ◌*◌, ◌/◌, ◌%◌, ◌^◌, ◌≤◌, ◌<◌}
 use mathlib.Core.Path.{◌≡◌, refl, sym, ap, ap₂, ◌∙◌}
-use mathlib.Core.Bool.{Bool, false, not, ◌||◌}
+use mathlib.Core.Bool.{Bool, true, false, not, ◌||◌}
 use mathlib.Core.List.{List, [], ◌∷◌, ◌++◌}
 use native.Mathlib.Omega.{arith}
 use native.Mathlib.Nat.{mod-lt, mod-eq_of_lt, pow-suc, div-div-eq-div-mul, div-le_self, div-one, div-eq_of_lt, lt_of_le_of_lt}
@@ -14,13 +14,24 @@ use Rattle.text.specs.Cut.{line_feed}
 use Rattle.text.proofs.Below.{all_below_lem}
 use Rattle.typed.specs.Words.{is_white, hash, hex_digit, past, start, skipped, hex_grown, onward, digit_on, text_on, byte_on, new_word, taken_of, words_of, hex_letter, last_digits, hex_text, AreWords, HexReadsBack}
 use Rattle.typed.specs.declared.Spelling.TheVariants.{Hex}
+use Rattle.std.specs.Prelude.{Option, Some, None, is_some}
+use Rattle.text.proofs.Bools.{never}
 use Rattle.typed.specs.declared.Taken.{Taken}
+use Rattle.typed.specs.declared.Trouble.{Trouble}
 use Rattle.typed.proofs.Words.{text_parted, text_digit, no_word, one_word, taken_pieces, words_pieces}
 
 -- ---- sixteen letters, by computation
 
-letter_digit : (d : ℕ) → d < 16 → hex_digit (hex_letter d) ≡ d
-letter_digit d h = eqb-true (hex_digit (hex_letter d)) d (all_below_lem 16 (λ k. eqb (hex_digit (hex_letter k)) k) refl d h)
+abbrev tells : Option ℕ → ℕ → Bool
+tells (Some x) d = eqb x d
+tells None d = false
+
+letter_digit : (d : ℕ) → d < 16 → hex_digit (hex_letter d) ≡ Some d
+letter_digit d h = is (hex_digit (hex_letter d)) (all_below_lem 16 (λ k. tells (hex_digit (hex_letter k)) k) refl d h)
+  where
+    is : (x : Option ℕ) → tells x d ≡ true → x ≡ Some d
+    is (Some x) e = ap (λ (k : ℕ). Some k) (eqb-true x d e)
+    is None e = never (sym e)
 
 letter_plain : (d : ℕ) → d < 16 → (is_white (hex_letter d) || eqb (hex_letter d) hash) ≡ false
 letter_plain d h = not-true _ (all_below_lem 16 (λ k. not (is_white (hex_letter k) || eqb (hex_letter k) hash)) refl d h)
@@ -30,30 +41,25 @@ letter_plain d h = not-true _ (all_below_lem 16 (λ k. not (is_white (hex_letter
 -- no comment, and nothing wrong
 pub record Open (s : Taken) : Type 0 where
   pub plain : s.comment ≡ false
-  pub well : s.trouble ≡ 0
+  pub well : s.trouble ≡ None
 
 module _ (room : ℕ) (s : Taken) (o : Open s) where
   byte_text : (b : ℕ) → byte_on Hex room b s ≡ text_on room b s
-  byte_text b = rw (eq-eqb s.trouble 0 o.well)
+  byte_text b = ap (λ (x : Option Trouble). pick (is_some x) s (text_on room b s)) o.well
 
   module _ (d : ℕ) (h : d < 16) where
-    byte_digit : byte_on Hex room (hex_letter d) s ≡ digit_on room (hex_letter d) s
-    byte_digit = byte_text (hex_letter d) ∙ text_digit room (hex_letter d) s o.plain (letter_plain d h) (λ e. small d h (sym (letter_digit d h) ∙ e))
-      where
-        small : (d : ℕ) → d < 16 → d ≡ 16 → ⊥
-        small d h e = omega arith
+    byte_digit : byte_on Hex room (hex_letter d) s ≡ digit_on room (hex_letter d) d s
+    byte_digit = byte_text (hex_letter d) ∙ sym (text_digit room (hex_letter d) s o.plain (letter_plain d h) (sym (letter_digit d h)))
 
     goes_on_lem : s.digits + 1 < 16 → byte_on Hex room (hex_letter d) s ≡ onward s.count (hex_grown d s) (s.digits + 1) (past (hex_letter d) s.place)
     goes_on_lem l =
         byte_digit
         ∙ rw (lt-leb 16 s.digits (omega arith), lt-ltb (s.digits + 1) 16 l)
-        (ap (λ (x : ℕ). onward s.count (hex_grown x s) (s.digits + 1) (past (hex_letter d) s.place)) (letter_digit d h))
 
     is_whole : s.digits + 1 ≡ 16 → s.count < room → byte_on Hex room (hex_letter d) s ≡ onward (s.count + 1) (hex_grown d s) 16 (past (hex_letter d) s.place)
     is_whole e l =
         byte_digit
         ∙ rw (lt-leb 16 s.digits (omega arith), le-ltb (s.digits + 1) 16 (omega arith), lt-leb room s.count l)
-        (ap (λ (x : ℕ). onward (s.count + 1) (hex_grown x s) 16 (past (hex_letter d) s.place)) (letter_digit d h))
 
   line_ends : s.digits ≡ 16 → byte_on Hex room line_feed s ≡ skipped (past line_feed s.place) false 0 s
   line_ends e = byte_text line_feed ∙ text_parted room line_feed s o.plain refl ∙ rw (le-ltb s.digits 16 (omega arith), ne_eqb s.digits 0 (more s.digits e))
@@ -203,5 +209,5 @@ hex_reads_back room ws a h =
     let r = text_read room 0 ws start a (omega arith) (record { fine = record { plain = refl; well = refl }; words = refl; digits = refl }) in
     record {
       words = r.1;
-      well = rw (eq-eqb _ 0 r.0.fine.well, eq-eqb _ 0 r.0.digits);
+      well = rw (r.0.fine.well, eq-eqb _ 0 r.0.digits) refl;
     }

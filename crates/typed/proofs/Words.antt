@@ -1,6 +1,6 @@
 -- Laws of words as they come in: a byte makes at most one word whole, it has room, and pieces are taken one after the other.
 -- Assumes nothing.
-use Prim.Native.Nat.{ℕ, ◌+◌, ◌*◌, ◌%◌, ◌^◌, ◌≤◌, ◌<◌}
+use Prim.Native.Nat.{ℕ, ◌+◌, ◌-◌, ◌*◌, ◌%◌, ◌^◌, ◌≤◌, ◌<◌}
 use mathlib.Core.Path.{◌≡◌, refl, sym, ap, ap₂, ◌∙◌}
 use mathlib.Core.Bool.{Bool, true, false, not, ◌||◌}
 use mathlib.Core.List.{List, [], ◌∷◌, ◌++◌, append_assoc}
@@ -8,7 +8,7 @@ use mathlib.Core.Logic.{◌⊎◌, inl, inr}
 use native.Mathlib.Omega.{arith}
 use native.Mathlib.Nat.{suc-mul, mod-lt, mod-eq_of_lt, le_trans, le_of_eq, mul-le-mul_right}
 use native.Mathlib.Numerals.{add-one}
-use borrow.Author.Tests.{lt-ltb, le-ltb, leb-false, eq-eqb, ne_eqb}
+use borrow.Author.Tests.{lt-ltb, le-ltb, leb-false, eq-eqb}
 use lib.Dec.{leb, ltb, eqb}
 use lib.ListN.{length, drop, get_or}
 use lib.Seq.{drop-cons}
@@ -18,10 +18,12 @@ use Rattle.buffer.specs.Put.{put}
 use Rattle.buffer.proofs.Laws.{put_none, put_put, length_put}
 use Rattle.text.specs.Number.{between, is_digit}
 use Rattle.text.specs.Cut.{line_feed}
-use Rattle.typed.specs.Words.{is_white, hash, troubled, skipped, grown, CanGrow, hex_digit, past, is_part, word_digits, parted_by, digit_on, text_on, raw_on, comma, decimal_grown, decimal_on, spelled_on, byte_on, new_word, taken_of, words_of, Takes, TakesOne}
+use Rattle.typed.specs.Words.{is_white, hash, troubled, skipped, grown, CanGrow, hex_digit, past, is_part, word_digits, parted_by, digit_on, worth_on, text_on, raw_on, comma, decimal_grown, decimal_on, spelled_on, byte_on, new_word, taken_of, words_of, Takes, TakesOne}
 use Rattle.typed.specs.declared.Spelling.{Spelling}
 use Rattle.typed.specs.declared.Spelling.TheVariants.{Hex, Raw, Decimal}
+use Rattle.std.specs.Prelude.{Option, Some, None, is_some}
 use Rattle.typed.specs.declared.Taken.{Taken}
+use Rattle.typed.specs.declared.Trouble.TheVariants.{NoDigit}
 use Rattle.typed.proofs.Numbers.{in_between}
 use Rattle.text.proofs.Alike.{ended}
 
@@ -39,17 +41,16 @@ unless P false p q = q refl
 
 -- ---- digits
 
-at_most_16 : (b : ℕ) → hex_digit b ≤ 16
-at_most_16 b =
-    under (λ (x : ℕ). x ≤ 16) (is_digit b) (λ e. omega (arith, (in_between 48 57 b e).1))
-    (under (λ (x : ℕ). x ≤ 16) (between 97 102 b) (λ e. omega (arith, (in_between 97 102 b e).1))
-    (under (λ (x : ℕ). x ≤ 16) (between 65 70 b) (λ e. omega (arith, (in_between 65 70 b e).1)) (omega arith)))
-
-pub digit_small : (b d : ℕ) → d ≡ hex_digit b → (d ≡ 16 → ⊥) → d < 16
-digit_small b d e n = small (hex_digit b) (λ h. n (e ∙ h)) (at_most_16 b) e
+-- a digit is below sixteen
+pub digit_small : (b d : ℕ) → Some d ≡ hex_digit b → d < 16
+digit_small b d e = by (is_digit b) refl (between 97 102 b) refl (between 65 70 b) refl e
   where
-    small : (x : ℕ) → (x ≡ 16 → ⊥) → x ≤ 16 → d ≡ x → d < 16
-    small x n l e = omega arith
+    by : (r : Bool) → is_digit b ≡ r → (s : Bool) → between 97 102 b ≡ s → (t : Bool) → between 65 70 b ≡ t
+        → Some d ≡ pick r (Some (b - 48)) (pick s (Some (b - 87)) (pick t (Some (b - 55)) None)) → d < 16
+    by true f s g t h e = let k : d ≡ b - 48 = cc in omega (arith, k, (in_between 48 57 b f).1)
+    by false f true g t h e = let k : d ≡ b - 87 = cc in omega (arith, k, (in_between 97 102 b g).1)
+    by false f false g true h e = let k : d ≡ b - 55 = cc in omega (arith, k, (in_between 65 70 b h).1)
+    by false f false g false h e = cc
 
 -- room for a digit more
 pub digit_room : (span base d v : ℕ) → CanGrow span base d → (v % span * base < 2 ^ 64) × (v % span * base + d < 2 ^ 64)
@@ -73,7 +74,7 @@ passed true a b e = cc
 
 module _ (room b : ℕ) (s : Taken) where
   abbrev if_digit : Taken
-  if_digit = pick (eqb (hex_digit b) 16) (troubled 1 s) (digit_on room b s)
+  if_digit = worth_on room b (hex_digit b) s
 
   abbrev if_no_comment : Taken
   if_no_comment = pick (is_white b || eqb b hash) (parted_by b s) if_digit
@@ -92,11 +93,11 @@ module _ (room b : ℕ) (s : Taken) where
       to_digit : text_on room b s ≡ if_digit
       to_digit = passed s.comment if_comment if_no_comment e ∙ passed (is_white b || eqb b hash) (parted_by b s) if_digit f
 
-      pub text_none : hex_digit b ≡ 16 → text_on room b s ≡ troubled 1 s
-      text_none g = to_digit ∙ picked (eqb (hex_digit b) 16) (troubled 1 s) (digit_on room b s) (eq-eqb (hex_digit b) 16 g)
+      pub text_none : None ≡ hex_digit b → troubled NoDigit s ≡ text_on room b s
+      text_none g = ap (λ (x : Option ℕ). worth_on room b x s) g ∙ sym to_digit
 
-      pub text_digit : (hex_digit b ≡ 16 → ⊥) → text_on room b s ≡ digit_on room b s
-      text_digit g = to_digit ∙ passed (eqb (hex_digit b) 16) (troubled 1 s) (digit_on room b s) (ne_eqb (hex_digit b) 16 g)
+      pub text_digit : {d : ℕ} → Some d ≡ hex_digit b → digit_on room b d s ≡ text_on room b s
+      text_digit g = ap (λ (x : Option ℕ). worth_on room b x s) g ∙ sym to_digit
 
 -- ---- how many words there are
 
@@ -105,17 +106,21 @@ abbrev pub Counts : ℕ → Taken → Taken → Type 0
 Counts room s t = (t.count ≡ s.count) ⊎ ((t.count ≡ s.count + 1) × (s.count < room))
 
 module _ (room b : ℕ) (s : Taken) where
-  digit_counts : Counts room s (digit_on room b s)
-  digit_counts =
+  digit_counts : (d : ℕ) → Counts room s (digit_on room b d s)
+  digit_counts d =
       either (Counts room s) (leb word_digits s.digits) (inl refl)
       (either (Counts room s) (ltb (s.digits + 1) word_digits) (inl refl)
       (unless (Counts room s) (leb room s.count) (inl refl) (λ e. inr (refl, leb-false room s.count e))))
+
+  worth_counts : (x : Option ℕ) → Counts room s (worth_on room b x s)
+  worth_counts None = inl refl
+  worth_counts (Some d) = digit_counts d
 
   text_counts : Counts room s (text_on room b s)
   text_counts =
       either (Counts room s) s.comment (inl refl)
       (either (Counts room s) (is_white b || eqb b hash) (either (Counts room s) (is_part s) (inl refl) (inl refl))
-      (either (Counts room s) (eqb (hex_digit b) 16) (inl refl) digit_counts))
+      (worth_counts (hex_digit b)))
 
   raw_counts : Counts room s (raw_on room b s)
   raw_counts =
@@ -137,7 +142,7 @@ module _ (room b : ℕ) (s : Taken) where
   spelled_counts Decimal = decimal_counts
 
   pub byte_counts : (spelling : Spelling) → Counts room s (byte_on spelling room b s)
-  byte_counts spelling = either (Counts room s) (eqb s.trouble 0) (spelled_counts spelling) (inl refl)
+  byte_counts spelling = either (Counts room s) (is_some s.trouble) (inl refl) (spelled_counts spelling)
 
 -- ---- the word that a byte made whole
 

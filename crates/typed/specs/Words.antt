@@ -1,7 +1,7 @@
 -- Words as they come in, byte by byte: as hexadecimal text, or raw, eight bytes each, most significant first; and numbers of a byte in decimal.
 -- Text: words of sixteen digits, parted by white space; # to the end of a line is a comment. Decimal: each number has a comma behind it.
-use Rattle.std.specs.Prelude.{ℕ, zero, suc, ◌+◌, ◌*◌, ◌-◌, ◌/◌, ◌%◌, ◌^◌, ◌≤◌, ◌<◌, ◌≡◌, Bool, false, not, ◌&&◌, ◌||◌, List, [], ◌∷◌, ◌++◌, ltb, leb, eqb, length}
-use Rattle.instruction.specs.Bits.{pick, ◌gives◌else◌}
+use Rattle.std.specs.Prelude.{ℕ, zero, suc, ◌+◌, ◌*◌, ◌-◌, ◌/◌, ◌%◌, ◌^◌, ◌≤◌, ◌<◌, ◌≡◌, Bool, false, not, ◌&&◌, ◌||◌, List, [], ◌∷◌, ◌++◌, ltb, leb, eqb, length, Option, Some, None, is_some}
+use Rattle.instruction.specs.Bits.{pick}
 use Rattle.instruction.specs.Word.{word_bytes, byte_span}
 use Rattle.buffer.specs.Put.{put}
 use Rattle.text.specs.Cut.{line_feed}
@@ -10,6 +10,8 @@ use Rattle.typed.specs.declared.Spelling.{Spelling}
 use Rattle.typed.specs.declared.Spelling.TheVariants.{Hex, Raw, Decimal}
 use Rattle.typed.specs.declared.Place.{Place}
 use Rattle.typed.specs.declared.Taken.{Taken}
+use Rattle.typed.specs.declared.Trouble.{Trouble}
+use Rattle.typed.specs.declared.Trouble.TheVariants.{NoDigit, FewDigits, ManyDigits, ManyWords, NotWhole}
 
 -- ---- letters
 
@@ -25,9 +27,9 @@ comma = 44
 abbrev pub is_white : ℕ → Bool
 is_white b = eqb b 32 || between 9 13 b
 
--- what a hexadecimal digit is worth; 16 where it is none
-abbrev pub hex_digit : ℕ → ℕ
-hex_digit b = pick (is_digit b) (b - 48) (pick (between 97 102 b) (b - 87) (pick (between 65 70 b) (b - 55) 16))
+-- what a hexadecimal digit is worth; nothing where it is none
+abbrev pub hex_digit : ℕ → Option ℕ
+hex_digit b = pick (is_digit b) (Some (b - 48)) (pick (between 97 102 b) (Some (b - 87)) (pick (between 65 70 b) (Some (b - 55)) None))
 
 -- ---- where in the text
 
@@ -41,14 +43,14 @@ past b p = pick (eqb b line_feed) (record { line = later p.line; column = 1 }) (
 -- ---- what is known after some bytes
 
 abbrev pub start : Taken
-start = record { count = 0; value = 0; digits = 0; place = record { line = 1; column = 1 }; comment = false; trouble = 0 }
+start = record { count = 0; value = 0; digits = 0; place = record { line = 1; column = 1 }; comment = false; trouble = None }
 
 -- something is wrong, and there it stays
-abbrev pub troubled : ℕ → Taken → Taken
-troubled k s = record { count = s.count; value = s.value; digits = s.digits; place = s.place; comment = s.comment; trouble = k }
+abbrev pub troubled : Trouble → Taken → Taken
+troubled k s = record { count = s.count; value = s.value; digits = s.digits; place = s.place; comment = s.comment; trouble = Some k }
 
 abbrev pub skipped : Place → Bool → ℕ → Taken → Taken
-skipped p comment digits s = record { count = s.count; value = s.value; digits = digits; place = p; comment = comment; trouble = 0 }
+skipped p comment digits s = record { count = s.count; value = s.value; digits = digits; place = p; comment = comment; trouble = None }
 
 -- one digit more, of so many that it can be, behind what there is room for; a new word starts from 0
 abbrev pub grown : ℕ → ℕ → ℕ → Taken → ℕ
@@ -65,7 +67,7 @@ decimal_grown b s = grown byte_span 10 (b - 48) s
 
 -- a digit more, of a word that goes on or is whole
 abbrev pub onward : ℕ → ℕ → ℕ → Place → Taken
-onward count value digits p = record { count = count; value = value; digits = digits; place = p; comment = false; trouble = 0 }
+onward count value digits p = record { count = count; value = value; digits = digits; place = p; comment = false; trouble = None }
 
 abbrev pub word_digits : ℕ
 word_digits = 16
@@ -78,43 +80,48 @@ is_part s = not (eqb s.digits 0) && ltb s.digits word_digits
 
 -- a word of fewer digits is none
 abbrev pub parted_by : ℕ → Taken → Taken
-parted_by b s = pick (is_part s) (troubled 2 s) (skipped (past b s.place) (eqb b hash) 0 s)
+parted_by b s = pick (is_part s) (troubled FewDigits s) (skipped (past b s.place) (eqb b hash) 0 s)
 
 -- nor is one of more; and there is room for so many
-abbrev pub digit_on : ℕ → ℕ → Taken → Taken
-digit_on room b s =
-    pick (leb word_digits s.digits) (troubled 3 s)
-    (pick (ltb (s.digits + 1) word_digits) (onward s.count (hex_grown (hex_digit b) s) (s.digits + 1) (past b s.place))
-    (pick (leb room s.count) (troubled 4 s)
-    (onward (s.count + 1) (hex_grown (hex_digit b) s) word_digits (past b s.place))))
+abbrev pub digit_on : ℕ → ℕ → ℕ → Taken → Taken
+digit_on room b d s =
+    pick (leb word_digits s.digits) (troubled ManyDigits s)
+    (pick (ltb (s.digits + 1) word_digits) (onward s.count (hex_grown d s) (s.digits + 1) (past b s.place))
+    (pick (leb room s.count) (troubled ManyWords s)
+    (onward (s.count + 1) (hex_grown d s) word_digits (past b s.place))))
+
+-- by what it is worth
+abbrev pub worth_on : ℕ → ℕ → Option ℕ → Taken → Taken
+worth_on room b None s = troubled NoDigit s
+worth_on room b (Some d) s = digit_on room b d s
 
 abbrev pub text_on : ℕ → ℕ → Taken → Taken
 text_on room b s =
     pick s.comment (skipped (past b s.place) (not (eqb b line_feed)) s.digits s)
     (pick (is_white b || eqb b hash) (parted_by b s)
-    (pick (eqb (hex_digit b) 16) (troubled 1 s) (digit_on room b s)))
+    (worth_on room b (hex_digit b) s))
 
 -- ---- one raw byte
 
 abbrev pub raw_on : ℕ → ℕ → Taken → Taken
 raw_on room b s =
     pick (ltb s.digits (word_bytes - 1)) (onward s.count (raw_grown b s) (s.digits + 1) s.place)
-    (pick (leb room s.count) (troubled 4 s) (onward (s.count + 1) (raw_grown b s) 0 s.place))
+    (pick (leb room s.count) (troubled ManyWords s) (onward (s.count + 1) (raw_grown b s) 0 s.place))
 
 -- ---- one byte of decimal numbers
 
 -- a number of no digits is none; and there is room for so many
 abbrev pub closed_on : ℕ → ℕ → Taken → Taken
 closed_on room b s =
-    pick (eqb s.digits 0) (troubled 2 s)
-    (pick (leb room s.count) (troubled 4 s) (onward (s.count + 1) s.value 0 (past b s.place)))
+    pick (eqb s.digits 0) (troubled FewDigits s)
+    (pick (leb room s.count) (troubled ManyWords s) (onward (s.count + 1) s.value 0 (past b s.place)))
 
 -- nor is one a number that no byte has
 abbrev pub decimal_digit_on : ℕ → Taken → Taken
-decimal_digit_on b s = pick (leb byte_span (decimal_grown b s)) (troubled 3 s) (onward s.count (decimal_grown b s) 1 (past b s.place))
+decimal_digit_on b s = pick (leb byte_span (decimal_grown b s)) (troubled ManyDigits s) (onward s.count (decimal_grown b s) 1 (past b s.place))
 
 abbrev pub decimal_on : ℕ → ℕ → Taken → Taken
-decimal_on room b s = pick (eqb b comma) (closed_on room b s) (pick (is_digit b) (decimal_digit_on b s) (troubled 1 s))
+decimal_on room b s = pick (eqb b comma) (closed_on room b s) (pick (is_digit b) (decimal_digit_on b s) (troubled NoDigit s))
 
 -- ---- bytes
 
@@ -125,7 +132,7 @@ spelled_on Decimal room b s = decimal_on room b s
 
 -- after trouble nothing is read any more
 abbrev pub byte_on : Spelling → ℕ → ℕ → Taken → Taken
-byte_on spelling room b s = pick (eqb s.trouble 0) (spelled_on spelling room b s) s
+byte_on spelling room b s = pick (is_some s.trouble) s (spelled_on spelling room b s)
 
 -- the word that a byte made whole
 abbrev pub new_word : Taken → Taken → List ℕ
@@ -158,13 +165,13 @@ pub record Takes (spelling : Spelling) (s : Taken) (text before after : List ℕ
 -- ---- at the end
 
 -- what is wrong when nothing more comes: a word may be left in part
-abbrev pub end_trouble : Spelling → Taken → ℕ
-end_trouble Hex s = is_part s gives 2 else 0
-end_trouble Raw s = not (eqb s.digits 0) gives 5 else 0
-end_trouble Decimal s = not (eqb s.digits 0) gives 5 else 0
+abbrev pub end_trouble : Spelling → Taken → Option Trouble
+end_trouble Hex s = pick (is_part s) (Some FewDigits) None
+end_trouble Raw s = pick (not (eqb s.digits 0)) (Some NotWhole) None
+end_trouble Decimal s = pick (not (eqb s.digits 0)) (Some NotWhole) None
 
-abbrev pub trouble_of : Spelling → Taken → ℕ
-trouble_of spelling s = pick (eqb s.trouble 0) (end_trouble spelling s) s.trouble
+abbrev pub trouble_of : Spelling → Taken → Option Trouble
+trouble_of spelling s = pick (is_some s.trouble) s.trouble (end_trouble spelling s)
 
 -- ---- a word as raw bytes
 
@@ -199,7 +206,7 @@ AreWords (w ∷ ws) = (w < 2 ^ 64) × AreWords ws
 -- words that are written as text read back as they were
 pub record ReadBack (room : ℕ) (ws text : List ℕ) : Type 0 where
   pub words : words_of Hex room start text ≡ ws
-  pub well : trouble_of Hex (taken_of Hex room start text) ≡ 0
+  pub well : trouble_of Hex (taken_of Hex room start text) ≡ None
 
 abbrev pub HexReadsBack : Type 0
 HexReadsBack = (room : ℕ) (ws : List ℕ) → AreWords ws → length ws ≤ room → ReadBack room ws (hex_text ws)

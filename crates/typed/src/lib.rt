@@ -3,68 +3,52 @@
 #![tactic(auto)]
 
 ghost use Rattle.std.specs.Prelude.{◌≡◌, true, ◌+◌, ◌*◌, ◌-◌, ◌^◌, ◌<◌};
-ghost use Rattle.instruction.specs.Word.{word_bytes};
-ghost use Rattle.text.specs.Number.{between, is_digit};
+ghost use Rattle.text.specs.Number.{is_digit};
 ghost use Rattle.typed.specs.Number.{amount_of, capped};
-ghost use Rattle.typed.specs.Words.{is_white, hex_digit, later, past, start, troubled, skipped, grown, onward, is_part, parted_by, digit_on, text_on, raw_on, closed_on, decimal_digit_on, decimal_on, byte_at, raw_bytes, byte_on, CanGrow, Takes, TakesOne, trouble_of};
+ghost use Rattle.typed.specs.Words.{is_white, hex_digit, later, past, start, troubled, skipped, grown, onward, is_part, parted_by, digit_on, text_on, raw_on, closed_on, decimal_digit_on, decimal_on, raw_bytes, byte_on, CanGrow, Takes, TakesOne, trouble_of};
 
 use instruction::Instruction;
 
 // ---- Numbers.
 
-fn between(first: u8, last: u8, b: u8) -> bool
-    ensures { result ≡ between first last b }
-{
-    (first <= b) & (b <= last)
-}
-
-// What a text says as a number.
-#[derive(Clone, Copy)]
-pub enum Amount {
-    Is(u64),
+// Why a text says no number that is allowed.
+#[derive(Clone, Copy, PartialEq, Eq)]
+pub enum AmountError {
     NoNumber,
     TooLarge,
 }
 
-impl Amount {
-    pub const BASE: u64 = 10;
+// Numbers are typed in decimal.
+const BASE: u64 = 10;
 
-    // One digit more, and of what is above the most only that it is.
-    fn grown(value: u64, b: u8, most: u64) -> u64
-        requires { (value < 2 ^ 33) × (most < 2 ^ 32) × (is_digit b ≡ true) }
-        ensures { result ≡ capped most (value * 10 + (b - 48)) }
-    {
-        let digit = b - b'0';
-        let v = value * Amount::BASE + digit as u64;
-        if most < v {
-            return most + 1;
-        }
-        v
-    }
+// One digit more, and of what is above the most only that it is.
+fn grown(value: u64, b: u8, most: u64) -> u64
+    requires { (value < 2 ^ 33) × (most < 2 ^ 32) × (is_digit b ≡ true) }
+    ensures { result ≡ capped most (value * 10 + (b - 48)) }
+{
+    let v = value * BASE + u64::from(b - b'0');
+    v.min(most + 1)
 }
 
 // The number that a text says, up to the most that is allowed.
-pub fn number(text: &[u8], most: u32) -> Amount
+pub fn number(text: &[u8], most: u32) -> Result<u64, AmountError>
     ensures { result ≡ amount_of most text.now }
 {
     if text.len() == 0 {
-        return Amount::NoNumber;
+        return Err(AmountError::NoNumber);
     }
-    let limit = most as u64;
+    let limit = u64::from(most);
     let mut value: u64 = 0;
-    let mut i: usize = 0;
-    while i < text.len() {
-        let b = text[i];
-        if !between(b'0', b'9', b) {
-            return Amount::NoNumber;
+    for b in text {
+        if !b.is_ascii_digit() {
+            return Err(AmountError::NoNumber);
         }
-        value = Amount::grown(value, b, limit);
-        i += 1;
+        value = grown(value, *b, limit);
     }
     if limit < value {
-        return Amount::TooLarge;
+        return Err(AmountError::TooLarge);
     }
-    Amount::Is(value)
+    Ok(value)
 }
 
 // ---- Words.
@@ -88,10 +72,7 @@ impl Place {
     fn later(x: u64) -> u64
         ensures { result ≡ later x }
     {
-        if x < u64::MAX {
-            return x + 1;
-        }
-        x
+        x.saturating_add(1)
     }
 
     fn past(self, b: u8) -> Place
@@ -110,6 +91,16 @@ impl Place {
     }
 }
 
+// What can be wrong with words.
+#[derive(Clone, Copy, PartialEq, Eq)]
+pub enum Trouble {
+    NoDigit,
+    FewDigits,
+    ManyDigits,
+    ManyWords,
+    NotWhole,
+}
+
 // What is known after some bytes: how many words there are, what there is of the next, and what is wrong.
 #[derive(Clone, Copy)]
 pub struct Taken {
@@ -118,32 +109,25 @@ pub struct Taken {
     pub digits: u64,
     pub place: Place,
     pub comment: bool,
-    pub trouble: u64,
+    pub trouble: Option<Trouble>,
 }
 
 fn is_white(b: u8) -> bool
     ensures { result ≡ is_white b }
 {
-    (b == b' ') | between(b'\t', b'\r', b)
+    matches!(b, b' ' | b'\t'..=b'\r')
 }
 
-// What a hexadecimal digit is worth; 16 where it is none.
-fn hex_digit(b: u8) -> u64
+// What a hexadecimal digit is worth; nothing where it is none.
+fn hex_digit(b: u8) -> Option<u64>
     ensures { result ≡ hex_digit b }
 {
-    if between(b'0', b'9', b) {
-        let d = b - b'0';
-        return d as u64;
+    match b {
+        b'0'..=b'9' => Some(u64::from(b - b'0')),
+        b'a'..=b'f' => Some(u64::from(b - (b'a' - 10))),
+        b'A'..=b'F' => Some(u64::from(b - (b'A' - 10))),
+        _ => None,
     }
-    if between(b'a', b'f', b) {
-        let d = b - (b'a' - 10);
-        return d as u64;
-    }
-    if between(b'A', b'F', b) {
-        let d = b - (b'A' - 10);
-        return d as u64;
-    }
-    Taken::HEX
 }
 
 impl Taken {
@@ -158,16 +142,6 @@ impl Taken {
     // The digits of a word.
     pub const WORD_DIGITS: u64 = 16;
 
-    pub const NO_DIGIT: u64 = 1;
-
-    pub const FEW_DIGITS: u64 = 2;
-
-    pub const MANY_DIGITS: u64 = 3;
-
-    pub const MANY_WORDS: u64 = 4;
-
-    pub const NOT_WHOLE: u64 = 5;
-
     pub fn start() -> Taken
         ensures { result ≡ start }
     {
@@ -178,14 +152,14 @@ impl Taken {
             digits: 0,
             place,
             comment: false,
-            trouble: 0,
+            trouble: None,
         }
     }
 
-    fn troubled(mut self, trouble: u64) -> Taken
+    fn troubled(mut self, trouble: Trouble) -> Taken
         ensures { result ≡ troubled trouble self }
     {
-        self.trouble = trouble;
+        self.trouble = Some(trouble);
         self
     }
 
@@ -198,7 +172,7 @@ impl Taken {
             digits,
             place,
             comment,
-            trouble: 0,
+            trouble: None,
         }
     }
 
@@ -211,7 +185,7 @@ impl Taken {
             digits,
             place,
             comment: false,
-            trouble: 0,
+            trouble: None,
         }
     }
 
@@ -226,7 +200,7 @@ impl Taken {
         ensures { result ≡ parted_by b self }
     {
         if self.is_part() {
-            return self.troubled(Taken::FEW_DIGITS);
+            return self.troubled(Trouble::FewDigits);
         }
         let place = self.place;
         self.skipped(place.past(b), b == b'#', 0)
@@ -246,21 +220,21 @@ impl Taken {
 
     // Nor is a word of more digits one; and there is room for so many.
     fn digit_on(self, room: u64, b: u8, d: u64) -> Taken
-        requires { (d ≡ hex_digit b) × (d < 16) }
-        ensures { result ≡ digit_on room b self }
+        requires { d < 16 }
+        ensures { result ≡ digit_on room b d self }
     {
         let digits = self.digits;
         let count = self.count;
         let place = self.place;
         if Taken::WORD_DIGITS <= digits {
-            return self.troubled(Taken::MANY_DIGITS);
+            return self.troubled(Trouble::ManyDigits);
         }
         let value = self.grown(Taken::HEX_SPAN, Taken::HEX, d);
         if digits + 1 < Taken::WORD_DIGITS {
             return Taken::onward(count, value, digits + 1, place.past(b));
         }
         if room <= count {
-            return self.troubled(Taken::MANY_WORDS);
+            return self.troubled(Trouble::ManyWords);
         }
         Taken::onward(count + 1, value, Taken::WORD_DIGITS, place.past(b))
     }
@@ -276,11 +250,10 @@ impl Taken {
         if is_white(b) | (b == b'#') {
             return self.parted_by(b);
         }
-        let d = hex_digit(b);
-        if d == Taken::HEX {
-            return self.troubled(Taken::NO_DIGIT);
+        match hex_digit(b) {
+            Some(d) => self.digit_on(room, b, d),
+            None => self.troubled(Trouble::NoDigit),
         }
-        self.digit_on(room, b, d)
     }
 
     // One raw byte.
@@ -299,7 +272,7 @@ impl Taken {
             return Taken::onward(count, value, digits + 1, place);
         }
         if room <= count {
-            return self.troubled(Taken::MANY_WORDS);
+            return self.troubled(Trouble::ManyWords);
         }
         Taken::onward(count + 1, value, 0, place)
     }
@@ -311,10 +284,10 @@ impl Taken {
         let count = self.count;
         let place = self.place;
         if self.digits == 0 {
-            return self.troubled(Taken::FEW_DIGITS);
+            return self.troubled(Trouble::FewDigits);
         }
         if room <= count {
-            return self.troubled(Taken::MANY_WORDS);
+            return self.troubled(Trouble::ManyWords);
         }
         Taken::onward(count + 1, self.value, 0, place.past(b))
     }
@@ -324,11 +297,10 @@ impl Taken {
         requires { is_digit b ≡ true }
         ensures { result ≡ decimal_digit_on b self }
     {
-        let d = b - b'0';
         let place = self.place;
-        let value = self.grown(Instruction::BYTE_SPAN, Amount::BASE, d as u64);
+        let value = self.grown(Instruction::BYTE_SPAN, BASE, u64::from(b - b'0'));
         if Instruction::BYTE_SPAN <= value {
-            return self.troubled(Taken::MANY_DIGITS);
+            return self.troubled(Trouble::ManyDigits);
         }
         Taken::onward(self.count, value, 1, place.past(b))
     }
@@ -337,20 +309,18 @@ impl Taken {
     fn decimal_on(self, room: u64, b: u8) -> Taken
         ensures { result ≡ decimal_on room b self }
     {
-        if b == b',' {
-            return self.closed_on(room, b);
+        match b {
+            b',' => self.closed_on(room, b),
+            b'0'..=b'9' => self.decimal_digit_on(b),
+            _ => self.troubled(Trouble::NoDigit),
         }
-        if between(b'0', b'9', b) {
-            return self.decimal_digit_on(b);
-        }
-        self.troubled(Taken::NO_DIGIT)
     }
 
     // One byte; after trouble nothing is read any more.
     fn byte_on(self, spelling: Spelling, room: u64, b: u8) -> Taken
         ensures { result ≡ byte_on spelling room b self }
     {
-        if self.trouble != 0 {
+        if self.trouble.is_some() {
             return self;
         }
         match spelling {
@@ -360,25 +330,17 @@ impl Taken {
         }
     }
 
-    // What is wrong when nothing more comes; 0 where all is well.
-    pub fn trouble_in(self, spelling: Spelling) -> u64
+    // What is wrong when nothing more comes; nothing where all is well.
+    pub fn trouble_in(self, spelling: Spelling) -> Option<Trouble>
         ensures { result ≡ trouble_of spelling self }
     {
-        if self.trouble != 0 {
+        if self.trouble.is_some() {
             return self.trouble;
         }
         match spelling {
-            Spelling::Hex => if self.is_part() { Taken::FEW_DIGITS } else { 0 },
-            Spelling::Raw => if self.digits != 0 {
-                Taken::NOT_WHOLE
-            } else {
-                0
-            },
-            Spelling::Decimal => if self.digits != 0 {
-                Taken::NOT_WHOLE
-            } else {
-                0
-            },
+            Spelling::Hex => self.is_part().then_some(Trouble::FewDigits),
+            Spelling::Raw => (self.digits != 0).then_some(Trouble::NotWhole),
+            Spelling::Decimal => (self.digits != 0).then_some(Trouble::NotWhole),
         }
     }
 }
@@ -400,35 +362,15 @@ pub fn take(words: &mut [u64], s: Taken, spelling: Spelling, text: &[u8]) -> Tak
     ensures { Takes spelling s text.now words.old words.new result }
 {
     let mut at = s;
-    let mut i: usize = 0;
-    while i < text.len() {
-        let next = take_byte(words, at, spelling, text[i]);
-        at = next;
-        i += 1;
+    for b in text {
+        at = take_byte(words, at, spelling, *b);
     }
     at
-}
-
-fn byte_at(word: u64, k: u64) -> u8
-    requires { k < word_bytes }
-    ensures { result ≡ byte_at word k }
-{
-    let byte = (word >> (8 * k)) % Instruction::BYTE_SPAN;
-    byte as u8
 }
 
 // A word as raw bytes, most significant first.
 pub fn raw(word: u64) -> [u8; Instruction::BYTES as usize]
     ensures { result ≡ raw_bytes word }
 {
-    [
-        byte_at(word, 7),
-        byte_at(word, 6),
-        byte_at(word, 5),
-        byte_at(word, 4),
-        byte_at(word, 3),
-        byte_at(word, 2),
-        byte_at(word, 1),
-        byte_at(word, 0),
-    ]
+    word.to_be_bytes()
 }

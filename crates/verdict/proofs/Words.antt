@@ -1,6 +1,6 @@
 -- Laws of the words where they stand: groups that close, and what a word that passes leaves.
 -- Assumes nothing.
-use Prim.Native.Nat.{ℕ, zero, suc, ◌+◌, ◌-◌, ◌≤◌, ◌<◌}
+use Prim.Native.Nat.{ℕ, zero, suc, ◌+◌, ◌-◌, ◌≤◌, ◌<◌, min}
 use mathlib.Core.Path.{◌≡◌, refl, sym, ap, subst, ◌∙◌}
 use mathlib.Core.Bool.{Bool, true, false, ◌||◌, ◌&&◌}
 use mathlib.Core.List.{List, [], ◌∷◌}
@@ -9,7 +9,9 @@ use native.Mathlib.Numerals.{add-one}
 use native.Mathlib.Decide.{ℕ_discrete, dec_lt}
 use native.Mathlib.Omega.{arith}
 use borrow.Author.Tests.{eq-eqb, ne_eqb, le-ltb, lt-ltb, leb-false}
-use lib.ListN.{length, get_or, drop}
+use lib.ListN.{length, get_or, take, drop, length-drop}
+use lib.Seq.{take_all}
+use Rattle.std.proofs.lemmas.List.{get_or-take, length-take}
 use Rattle.instruction.specs.Table.{noop_word}
 use Rattle.instruction.specs.Word.{spelled_by, noop}
 use Rattle.instruction.specs.declared.Body.{Body}
@@ -17,9 +19,8 @@ use Rattle.instruction.specs.declared.Body.TheVariants.{Waveform, Marker, Wait, 
 use Rattle.instruction.specs.declared.Instruction.{Instruction}
 use Rattle.instruction.specs.declared.Refusal.{Refusal}
 use Rattle.instruction.specs.declared.Rules.{Rules}
-use Rattle.reader.specs.Reading.{reading_of, form_in}
-use Rattle.reader.specs.declared.Reading.{Reading}
-use Rattle.reader.specs.declared.Reading.TheVariants.{Accepted}
+use Rattle.reader.specs.Reading.{Reading, reading_of, form_in}
+use Rattle.std.specs.declared.result.Result.TheVariants.{Ok}
 use Rattle.reader.proofs.Laws.{reads_noop, reads, refuses}
 use Rattle.sequence.specs.Bounds.{lengths_refused}
 use Rattle.sequence.specs.Placing.{is_engine, out_of_words, placing_of}
@@ -70,6 +71,29 @@ module _ (k at : ℕ) (words : List ℕ) (some : 0 < k) (l : at < length words) 
 
   pub closes_on : is_engine_word (get_or words at 0) ≡ true → is_high (get_or words at 0) ≡ false → closes k (drop at words) ≡ closes (k - 1) (drop (at + 1) words)
   closes_on e h = closes_at ∙ rw (e, h)
+
+-- of the words that are near enough
+module _ (n i : ℕ) (above : List ℕ) {m : ℕ} (e : m ≡ min (length above) n) (h : i < length (take m above)) where
+  pub near_left : 0 < n - i
+  near_left = omega (arith, e, h, length-take m above)
+
+  pub near_in : i < length above
+  near_in = omega (arith, e, h, length-take m above)
+
+  pub near_is : get_or (take m above) i 0 ≡ get_or above i 0
+  near_is = get_or-take m above i 0 (omega (arith, e, h, length-take m above))
+
+-- and behind them
+pub near_none : (n i : ℕ) (above : List ℕ) {m : ℕ} → m ≡ min (length above) n → length (take m above) ≤ i → closes (n - i) (drop i above) ≡ false
+near_none n i above {m = m} e h = by (dec_lt i (length above))
+  where
+    by : Dec (i < length above) → closes (n - i) (drop i above) ≡ false
+    by (no l) = closes_end (n - i) i above (omega (arith, l))
+    by (yes l) = let z : n - i ≡ 0 = omega (arith, e, h, l, length-take m above) in ap (λ (k : ℕ). closes k (drop i above)) z ∙ closes_none (drop i above)
+
+-- the words from a place to the end
+pub rest_above : (words : List ℕ) (at : ℕ) → take (length words - at) (drop at words) ≡ drop at words
+rest_above words at = take_all (length words - at) (drop at words) (omega (arith, length-drop at words))
 
 -- ---- one word
 
@@ -123,7 +147,7 @@ noop_spelled = refl
 -- what a word that passes is: an instruction that is placed and whose group closes, and what the walk and the groups take it for
 pub record Stands (rules : Rules) (wave : ℕ) (words : List ℕ) (a : ℕ) : Type 0 where
   pub instruction : Instruction
-  pub reads : reading_of rules (get_or words a 0) ≡ Accepted instruction
+  pub reads : reading_of rules (get_or words a 0) ≡ Ok instruction
   pub placed : placing_of wave (length words) instruction.body ≡ 0
   pub closed : left_open instruction (drop (a + 1) words) ≡ false
   pub body : (spelled_by (get_or words a 0)).body ≡ instruction.body
@@ -135,7 +159,7 @@ stands rules wave words a e = by (ℕ_discrete w noop_word)
     w : ℕ
     w = get_or words a 0
 
-    good : (i : Instruction) → reading_of rules w ≡ Accepted i → stands_refused wave (length words) (drop (a + 1) words) i ≡ 0
+    good : (i : Instruction) → reading_of rules w ≡ Ok i → stands_refused wave (length words) (drop (a + 1) words) i ≡ 0
     good i r = sym (ap (λ (q : Refusal). q.number) (refusal_at rules wave words a r)) ∙ e
 
     form : (w ≡ noop_word → ⊥) → Dec (form_in rules w ≡ 0) → Stands rules wave words a

@@ -7,9 +7,8 @@ use Rattle.instruction.specs.Word.{spelled_by}
 use Rattle.instruction.specs.declared.Instruction.{Instruction}
 use Rattle.instruction.specs.declared.Refusal.{Refusal}
 use Rattle.instruction.specs.declared.Rules.{Rules}
-use Rattle.reader.specs.Reading.{reading_of}
-use Rattle.reader.specs.declared.Reading.{Reading}
-use Rattle.reader.specs.declared.Reading.TheVariants.{Accepted, Refused}
+use Rattle.reader.specs.Reading.{Reading, reading_of}
+use Rattle.std.specs.declared.result.Result.TheVariants.{Ok, Err}
 use Rattle.sequence.specs.Bounds.{group_size}
 use Rattle.sequence.specs.Placing.{is_engine, placing_of}
 
@@ -40,8 +39,8 @@ stands_refused wave n above i =
 
 -- form first
 abbrev pub refused_as : ℕ → ℕ → List ℕ → Reading → Refusal
-refused_as wave n above (Refused r) = r
-refused_as wave n above (Accepted i) = numbered (stands_refused wave n above i)
+refused_as wave n above (Err r) = r
+refused_as wave n above (Ok i) = numbered (stands_refused wave n above i)
 
 -- the refusal of the word at an address; number 0 passes
 unfoldable pub word_refusal : Rules → ℕ → List ℕ → ℕ → Refusal

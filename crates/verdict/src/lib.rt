@@ -3,16 +3,18 @@
 #![tactic(auto)]
 
 ghost use Rattle.std.specs.Prelude.{◌≡◌, ◌<◌, ◌-◌, length, drop};
+ghost use Rattle.instruction.specs.Form.{told};
+ghost use Rattle.sequence.specs.Numbers.{input_number, place_number};
 ghost use Rattle.sequence.specs.Bounds.{group_size};
 ghost use Rattle.verdict.specs.Flow.{FlowIs, CanJudge};
 ghost use Rattle.verdict.specs.Words.{is_engine_word, is_high, closes, left_open, stands_refused, word_refusal};
 ghost use Rattle.verdict.specs.Check.{check_input_refused, WordsAre, CheckIs};
 
 use flow::{Move, Moves};
-use instruction::{Instruction, QuadSamples, Refusal, Rules, WordAddress};
+use instruction::{Instruction, Numbered, QuadSamples, Refusal, Rules, WordAddress, told};
 use look::fault_of;
 use reader::{coarse_of, finer, instruction_in};
-use sequence::Sequence;
+use sequence::{BadInput, Fault, Misplaced, Sequence};
 use walk::Seen;
 
 // A refusal and its place; number 0 at place 0 is accepted.
@@ -31,10 +33,7 @@ fn judge(words: &[u64], marks: &[u64], seen: Seen, limit: u64) -> Verdict
     let a = seen.faulty.0 as usize;
     if a < n {
         return Verdict {
-            refusal: Refusal {
-                number: fault_of(Move::at(words[a]), marks[a], limit),
-                bit: 0,
-            },
+            refusal: Refusal::numbered(told(fault_of(Move::at(words[a]), marks[a], limit))),
             place: WordAddress(a as u64),
         };
     }
@@ -43,15 +42,12 @@ fn judge(words: &[u64], marks: &[u64], seen: Seen, limit: u64) -> Verdict
     let x = f.next;
     if x != 0 {
         return Verdict {
-            refusal: Refusal {
-                number: Sequence::PAST_THE_END,
-                bit: 0,
-            },
+            refusal: Refusal::numbered(Fault::PastTheEnd.number()),
             place: WordAddress(n as u64),
         };
     }
     Verdict {
-        refusal: Refusal { number: 0, bit: 0 },
+        refusal: Refusal::numbered(0),
         place: WordAddress(0),
     }
 }
@@ -71,32 +67,25 @@ fn is_high(word: u64) -> bool
     i.write != 0
 }
 
-// Whether a group that is open before an address is sent by a word at it or above, in time.
-fn closes_from(words: &[u64], from: usize) -> bool
-    ensures { result ≡ closes (group_size - 1) (drop from words.now) }
+// Whether a group that is open is sent by one of the words above, in time.
+fn closes(above: &[u64]) -> bool
+    ensures { result ≡ closes (group_size - 1) above.now }
 {
-    let mut left: u64 = Sequence::GROUP - 1;
-    let mut at = from;
-    while 0 < left {
-        if words.len() <= at {
+    let near = &above[..above.len().min(Sequence::GROUP as usize - 1)];
+    for word in near {
+        if !is_engine_word(*word) {
             return false;
         }
-        let word = words[at];
-        if !is_engine_word(word) {
-            return false;
-        }
-        if is_high(word) {
+        if is_high(*word) {
             return true;
         }
-        at += 1;
-        left -= 1;
     }
     false
 }
 
 // 22: a low word that no word sends.
-fn left_open(words: &[u64], above: usize, i: Instruction) -> bool
-    ensures { result ≡ left_open i (drop above words.now) }
+fn left_open(above: &[u64], i: Instruction) -> bool
+    ensures { result ≡ left_open i above.now }
 {
     let body = i.body;
     let write = i.write;
@@ -106,22 +95,19 @@ fn left_open(words: &[u64], above: usize, i: Instruction) -> bool
     if write != 0 {
         return false;
     }
-    !closes_from(words, above)
+    !closes(above)
 }
 
-// 20, 21, 22 or 0, of an instruction with the words above it.
-fn stands_refused(words: &[u64], wave: QuadSamples, above: usize, i: Instruction) -> u64
-    ensures { result ≡ stands_refused wave.0 (length words.now) (drop above words.now) i }
+// 20, 21 or 22, of an instruction of n words, with the words above it.
+#[tactic(auto, unfolding(crate::specs::Words::stands_refused))]
+fn stands_refused(n: u64, wave: QuadSamples, above: &[u64], i: Instruction) -> Result<(), Misplaced>
+    ensures { told place_number result ≡ stands_refused wave.0 n above.now i }
 {
-    let body = i.body;
-    let placing = Sequence::placing(wave, words.len() as u64, body);
-    if placing != 0 {
-        return placing;
+    Sequence::placing(wave, n, i.body)?;
+    if left_open(above, i) {
+        return Err(Misplaced::BrokenGroup);
     }
-    if left_open(words, above, i) {
-        return Sequence::BROKEN_GROUP;
-    }
-    0
+    Ok(())
 }
 
 // The refusal of the word at an address; number 0 passes.
@@ -134,18 +120,20 @@ fn word_refusal(words: &[u64], wave: QuadSamples, rules: Rules, a: usize) -> Ref
     if coarse != 0 {
         return finer(word, coarse);
     }
-    Refusal {
-        number: stands_refused(words, wave, a + 1, instruction_in(word)),
-        bit: 0,
-    }
+    let stands = stands_refused(
+        words.len() as u64,
+        wave,
+        &words[a + 1..],
+        instruction_in(word),
+    );
+    Refusal::numbered(told(stands))
 }
 
 // The first word that is refused.
 fn judge_words(words: &[u64], wave: QuadSamples, rules: Rules) -> Verdict
     ensures { WordsAre rules wave.0 words.now result }
 {
-    let mut a: usize = 0;
-    while a < words.len() {
+    for a in 0..words.len() {
         let refusal = word_refusal(words, wave, rules, a);
         if refusal.number != 0 {
             return Verdict {
@@ -153,39 +141,32 @@ fn judge_words(words: &[u64], wave: QuadSamples, rules: Rules) -> Verdict
                 place: WordAddress(a as u64),
             };
         }
-        a += 1;
     }
     Verdict {
-        refusal: Refusal { number: 0, bit: 0 },
+        refusal: Refusal::numbered(0),
         place: WordAddress(0),
     }
 }
 
-// 1 to 4 or 0, for n words, a waveform memory and room for marks.
-fn input_refused(n: u64, wave: QuadSamples, room: u64) -> u64
-    ensures { result ≡ check_input_refused n wave.0 room }
+// 1 to 4, for n words, a waveform memory and room for marks.
+#[tactic(auto, unfolding(crate::specs::Check::check_input_refused))]
+fn input_refused(n: u64, wave: QuadSamples, room: u64) -> Result<(), BadInput>
+    ensures { told input_number result ≡ check_input_refused n wave.0 room }
 {
-    let lengths = Sequence::lengths_refused(n, wave);
-    if lengths != 0 {
-        return lengths;
-    }
+    Sequence::lengths_refused(n, wave)?;
     if room < n {
-        return Sequence::SHORT_MARKS;
+        return Err(BadInput::ShortMarks);
     }
-    0
+    Ok(())
 }
 
 // Check.
 pub fn check(words: &[u64], wave: QuadSamples, rules: Rules, marks: &mut [u64]) -> Verdict
     ensures { CheckIs rules wave.0 words.now marks.old result marks.new }
 {
-    let input = input_refused(words.len() as u64, wave, marks.len() as u64);
-    if input != 0 {
+    if let Err(bad) = input_refused(words.len() as u64, wave, marks.len() as u64) {
         return Verdict {
-            refusal: Refusal {
-                number: input,
-                bit: 0,
-            },
+            refusal: Refusal::numbered(bad.number()),
             place: WordAddress(0),
         };
     }

@@ -4,13 +4,14 @@ use Prim.Native.Nat.{ℕ, zero, suc, ◌+◌, ◌-◌, ◌*◌, ◌^◌, ◌≤�
 use mathlib.Core.Path.{◌≡◌, refl, sym, ap, subst, ◌∙◌}
 use mathlib.Core.Logic.{⊎_elim}
 use mathlib.Core.Bool.{Bool, true, false}
-use mathlib.Core.List.{List, [], ◌∷◌}
+use mathlib.Core.List.{List, [], ◌∷◌, ◌++◌}
 use native.Mathlib.Nat.{le_refl, le_trans, lt_of_le_of_lt, eq-or-lt_of_le, le_of_suc-le-suc}
 use native.Mathlib.Numerals.{add-one}
 use native.Mathlib.Decide.{ℕ_discrete}
 use native.Mathlib.Omega.{arith}
 use lib.Dec.{lit<}
-use lib.ListN.{length, get_or, set, length-set}
+use lib.ListN.{length, get_or, set, drop, replicate, length-set, get_or-append}
+use Rattle.std.proofs.lemmas.List.{length-replicate, get_or-replicate, get_or-append_right, get_or-drop}
 use lib.Seq.{get_or-set_same, get_or-set_other}
 use lib.Bits.{bit_or, or_add_and, and_le_r}
 use Rattle.instruction.specs.declared.WordAddress.{WordAddress}
@@ -454,6 +455,15 @@ pub unclean_fault : (lim : ℕ) (ws : List ℕ) (r : ℕ) (ms : List ℕ) (f : �
 unclean_fault lim ws r ms f u all = record { low = u.low; none = λ b l h. (u.clean b h).good; here = λ l. (l, λ z. u.here l (record { closed = all f l; good = z })) }
 
 -- ---- the start
+
+-- zeros laid over the front
+pub cleared : (n : ℕ) (ms : List ℕ) {k : ℕ} → k ≡ n → Cleared n ms (replicate k 0 ++ drop n ms)
+cleared n ms {k = k} e =
+    let long : length (replicate {A = ℕ} k 0) ≡ n = length-replicate {A = ℕ} k 0 ∙ e in
+    record {
+      clear = λ a l. get_or-append (replicate k 0) (drop n ms) 0 a (omega (arith, l, long)) ∙ get_or-replicate k a 0 0 (omega (arith, l, e));
+      tail = λ a l. get_or-append_right (replicate k 0) (drop n ms) n a 0 long l ∙ get_or-drop n ms (a - n) 0 ∙ ap (λ (j : ℕ). get_or ms j 0) (omega (arith, l));
+    }
 
 begun_at : (lim : ℕ) (ws : List ℕ) (d : ℕ) (c : Bool) → On (place d c) 1 → Reached lim ws 0 d c
 begun_at lim ws zero false p = start

@@ -43,34 +43,20 @@ pub struct Seen {
     pub faulty: WordAddress,
 }
 
-// A hint that an address is worth a visit. It may be dropped.
-fn push(
-    stack: &mut [u16; Sequence::WORDS as usize],
-    known: &mut [u8; Sequence::WORDS as usize],
-    len: usize,
-    a: usize,
-) -> usize
-    requires { len ≤ word_limit }
-    ensures { result ≤ word_limit }
-{
-    if Sequence::WORDS as usize <= a {
-        return len;
-    }
-    if Sequence::WORDS as usize <= len {
-        return len;
-    }
-    if known[a] & Trail::HINTED != 0 {
-        return len;
-    }
-    known[a] = known[a] | Trail::HINTED;
-    stack[len] = a as u16;
-    len + 1
+// What the walk has noted: addresses that are worth a visit, CALLs that were met, and of each address whether it is among them.
+#[derive(Drop)]
+struct Notes {
+    hints: [u16; Sequence::WORDS as usize],
+    calls: [u16; Sequence::WORDS as usize],
+    known: [u8; Sequence::WORDS as usize],
 }
 
-// A CALL that was met is listed, once.
-fn list(
-    calls: &mut [u16; Sequence::WORDS as usize],
+// An address added to a list, once; how long the list is then. It may be dropped.
+// The list is one of two in the notes, so this is no method of theirs.
+fn add(
+    list: &mut [u16; Sequence::WORDS as usize],
     known: &mut [u8; Sequence::WORDS as usize],
+    bit: u8,
     len: usize,
     a: usize,
 ) -> usize
@@ -83,11 +69,11 @@ fn list(
     if Sequence::WORDS as usize <= len {
         return len;
     }
-    if known[a] & Trail::LISTED != 0 {
+    if known[a] & bit != 0 {
         return len;
     }
-    known[a] = known[a] | Trail::LISTED;
-    calls[len] = a as u16;
+    known[a] |= bit;
+    list[len] = a as u16;
     len + 1
 }
 
@@ -101,113 +87,128 @@ fn entry(list: &[u16], i: usize) -> usize
     list[i] as usize
 }
 
-// A CALL, where a RETURN is met one deeper.
-fn push_call(
-    marks: &[u64],
-    stack: &mut [u16; Sequence::WORDS as usize],
-    known: &mut [u8; Sequence::WORDS as usize],
-    len: usize,
-    a: usize,
-    met: u64,
-) -> usize
-    requires { len ≤ word_limit }
-    ensures { result ≤ word_limit }
-{
-    if marks.len() <= a {
-        return len;
+impl Notes {
+    // A hint that an address is worth a visit.
+    fn push(&mut self, len: usize, a: usize) -> usize
+        requires { len ≤ word_limit }
+        ensures { result ≤ word_limit }
+    {
+        add(&mut self.hints, &mut self.known, Trail::HINTED, len, a)
     }
-    if Mark::bare(marks[a]) & (met / 4) == 0 {
-        return len;
-    }
-    push(stack, known, len, a)
-}
 
-// The CALLs that a RETURN leads back to.
-fn push_calls(
-    marks: &[u64],
-    stack: &mut [u16; Sequence::WORDS as usize],
-    known: &mut [u8; Sequence::WORDS as usize],
-    calls: &[u16; Sequence::WORDS as usize],
-    s: Trail,
-    met: u64,
-) -> usize
-    requires { Room s }
-    ensures { result ≤ word_limit }
-{
-    let mut top = s.hints;
-    let mut i: usize = 0;
-    while i < s.calls {
-        let a = entry(calls, i);
-        top = push_call(marks, stack, known, top, a, met);
-        i += 1;
+    // A CALL, where a RETURN is met one deeper.
+    fn push_call(&mut self, marks: &[u64], len: usize, a: usize, met: u64) -> usize
+        requires { len ≤ word_limit }
+        ensures { result ≤ word_limit }
+    {
+        if marks.len() <= a {
+            return len;
+        }
+        if Mark::bare(marks[a]) & (met / 4) == 0 {
+            return len;
+        }
+        self.push(len, a)
     }
-    top
-}
 
-// A RETURN at hand: where it is met at a new depth, the CALLs that it leads back to are worth a visit.
-fn note_return(
-    marks: &[u64],
-    stack: &mut [u16; Sequence::WORDS as usize],
-    known: &mut [u8; Sequence::WORDS as usize],
-    calls: &[u16; Sequence::WORDS as usize],
-    s: Trail,
-) -> Trail
-    requires { Room s }
-    ensures { NoteDone Move.Leave s result }
-{
-    let met = Mark::bare(s.mark);
-    let back = s.back | met;
-    if back == s.back {
-        return s;
+    // The CALLs that a RETURN leads back to.
+    fn push_calls(&mut self, marks: &[u64], s: Trail, met: u64) -> usize
+        requires { Room s }
+        ensures { result ≤ word_limit }
+    {
+        let mut top = s.hints;
+        for i in 0..s.calls {
+            let a = entry(&self.calls, i);
+            top = self.push_call(marks, top, a, met);
+        }
+        top
     }
-    let hints = push_calls(marks, stack, known, calls, s, met);
-    Trail {
-        hints,
-        calls: s.calls,
-        back,
-        at: s.at,
-        mark: s.mark,
-    }
-}
 
-// A CALL at hand, to any target.
-fn note_call(
-    known: &mut [u8; Sequence::WORDS as usize],
-    calls: &mut [u16; Sequence::WORDS as usize],
-    s: Trail,
-) -> Trail
-    requires { Room s }
-    ensures { (t : WordAddress) → NoteDone (Move.Enter t) s result }
-{
-    let listed = list(calls, known, s.calls, s.at);
-    Trail {
-        hints: s.hints,
-        calls: listed,
-        back: s.back,
-        at: s.at,
-        mark: s.mark,
+    // A RETURN at hand: where it is met at a new depth, the CALLs that it leads back to are worth a visit.
+    fn note_return(&mut self, marks: &[u64], s: Trail) -> Trail
+        requires { Room s }
+        ensures { NoteDone Move.Leave s result }
+    {
+        let met = Mark::bare(s.mark);
+        let back = s.back | met;
+        if back == s.back {
+            return s;
+        }
+        let hints = self.push_calls(marks, s, met);
+        Trail { hints, back, ..s }
     }
-}
 
-// The word at hand, where it is a RETURN or a CALL.
-fn note(
-    marks: &[u64],
-    stack: &mut [u16; Sequence::WORDS as usize],
-    known: &mut [u8; Sequence::WORDS as usize],
-    calls: &mut [u16; Sequence::WORDS as usize],
-    s: Trail,
-    o: Move,
-) -> Trail
-    requires { Room s }
-    ensures { NoteDone o s result }
-{
-    match o {
-        Move::Other => s,
-        Move::Compare => s,
-        Move::Jump(_) => s,
-        Move::Enter(_) => note_call(known, calls, s),
-        Move::Leave => note_return(marks, stack, known, calls, s),
-        Move::Loop(_) => s,
+    // A CALL at hand, to any target: it is listed, once.
+    fn note_call(&mut self, s: Trail) -> Trail
+        requires { Room s }
+        ensures { (t : WordAddress) → NoteDone (Move.Enter t) s result }
+    {
+        let calls = add(
+            &mut self.calls,
+            &mut self.known,
+            Trail::LISTED,
+            s.calls,
+            s.at,
+        );
+        Trail { calls, ..s }
+    }
+
+    // The word at hand, where it is a RETURN or a CALL.
+    fn note(&mut self, marks: &[u64], s: Trail, o: Move) -> Trail
+        requires { Room s }
+        ensures { NoteDone o s result }
+    {
+        match o {
+            Move::Other => s,
+            Move::Compare => s,
+            Move::Jump(_) => s,
+            Move::Enter(_) => self.note_call(s),
+            Move::Leave => self.note_return(marks, s),
+            Move::Loop(_) => s,
+        }
+    }
+
+    // The address of the last hint, where there is one below n.
+    fn take(&mut self, n: usize, marks: &[u64], s: Trail) -> Trail
+        requires { (n ≤ length marks.now) × Room s × (0 < s.hints) }
+        ensures { TurnIs n marks.now s result }
+    {
+        let hints = s.hints - 1;
+        let at = entry(&self.hints, hints);
+        if n <= at {
+            return Trail {
+                hints,
+                at: n,
+                mark: 0,
+                ..s
+            };
+        }
+        self.known[at] &= Trail::LISTED;
+        let mark = marks[at];
+        Trail {
+            hints,
+            at,
+            mark,
+            ..s
+        }
+    }
+
+    // On, where a bit was set; else to one of the hints; else to n.
+    fn turn(&mut self, n: usize, marks: &[u64], s: Trail) -> Trail
+        requires { (n ≤ length marks.now) × Room s }
+        ensures { TurnIs n marks.now s result }
+    {
+        if s.mark != 0 {
+            return s;
+        }
+        if s.hints == 0 {
+            return Trail {
+                hints: 0,
+                at: n,
+                mark: 0,
+                ..s
+            };
+        }
+        self.take(n, marks, s)
     }
 }
 
@@ -240,34 +241,18 @@ fn put_there(n: usize, marks: &mut [u64], to: usize, x: u64) -> u64
 }
 
 // Bits put at a target, with a hint where that set one.
-fn leap(
-    n: usize,
-    marks: &mut [u64],
-    stack: &mut [u16; Sequence::WORDS as usize],
-    known: &mut [u8; Sequence::WORDS as usize],
-    len: usize,
-    at: usize,
-    x: u64,
-) -> usize
+fn leap(n: usize, marks: &mut [u64], notes: &mut Notes, len: usize, at: usize, x: u64) -> usize
     requires { (n ≤ length marks.old) × (len ≤ word_limit) }
     ensures { LeapDone n marks.old len at x marks.new result }
 {
     if put_there(n, marks, at, x) == 0 {
         return len;
     }
-    push(stack, known, len, at)
+    notes.push(len, at)
 }
 
 // All that the address at hand leads to: the target comes next where the next address has nothing new.
-fn branch(
-    words: &[u64],
-    marks: &mut [u64],
-    stack: &mut [u16; Sequence::WORDS as usize],
-    known: &mut [u8; Sequence::WORDS as usize],
-    calls: &mut [u16; Sequence::WORDS as usize],
-    s: Trail,
-    limit: u64,
-) -> Trail
+fn branch(words: &[u64], marks: &mut [u64], notes: &mut Notes, s: Trail, limit: u64) -> Trail
     requires { CanVisit words.now marks.old limit s }
     ensures { VisitDone limit words.now marks.old s marks.new result }
 {
@@ -275,136 +260,57 @@ fn branch(
     let a = s.at;
     let o = Move::at(words[a]);
     let next = a + 1;
-    let t = note(marks, stack, known, calls, s, o);
+    let t = notes.note(marks, s, o);
     let f = Moves::of(o, s.mark, t.back, limit);
     let to = f.to.0 as usize;
     let mark = put(n, marks, next, f.next);
     if mark == 0 {
         let there = put_there(n, marks, to, f.jump);
         return Trail {
-            hints: t.hints,
-            calls: t.calls,
-            back: t.back,
             at: to,
             mark: there,
+            ..t
         };
     }
-    let hints = leap(n, marks, stack, known, t.hints, to, f.jump);
+    let hints = leap(n, marks, notes, t.hints, to, f.jump);
     Trail {
         hints,
-        calls: t.calls,
-        back: t.back,
         at: next,
         mark,
+        ..t
     }
 }
 
 // A visit: an address where a bit was set, with its mark; a mark of 0 where none was.
-fn visit(
-    words: &[u64],
-    marks: &mut [u64],
-    stack: &mut [u16; Sequence::WORDS as usize],
-    known: &mut [u8; Sequence::WORDS as usize],
-    calls: &mut [u16; Sequence::WORDS as usize],
-    s: Trail,
-    limit: u64,
-) -> Trail
+fn visit(words: &[u64], marks: &mut [u64], notes: &mut Notes, s: Trail, limit: u64) -> Trail
     requires { CanVisit words.now marks.old limit s }
     ensures { VisitDone limit words.now marks.old s marks.new result }
 {
     let a = s.at;
     let word = words[a];
     if !Move::goes_on(word) {
-        return branch(words, marks, stack, known, calls, s, limit);
+        return branch(words, marks, notes, s, limit);
     }
     let next = a + 1;
     let mark = put(words.len(), marks, next, s.mark);
     Trail {
-        hints: s.hints,
-        calls: s.calls,
-        back: s.back,
         at: next,
         mark,
+        ..s
     }
-}
-
-// The address of the last hint, where there is one below n.
-fn take(
-    n: usize,
-    marks: &[u64],
-    stack: &[u16; Sequence::WORDS as usize],
-    known: &mut [u8; Sequence::WORDS as usize],
-    s: Trail,
-) -> Trail
-    requires { (n ≤ length marks.now) × Room s × (0 < s.hints) }
-    ensures { TurnIs n marks.now s result }
-{
-    let top = s.hints - 1;
-    let at = entry(stack, top);
-    if n <= at {
-        return Trail {
-            hints: top,
-            calls: s.calls,
-            back: s.back,
-            at: n,
-            mark: 0,
-        };
-    }
-    known[at] = known[at] & Trail::LISTED;
-    let mark = marks[at];
-    Trail {
-        hints: top,
-        calls: s.calls,
-        back: s.back,
-        at,
-        mark,
-    }
-}
-
-// On, where a bit was set; else to one of the hints; else to n.
-fn turn(
-    n: usize,
-    marks: &[u64],
-    stack: &[u16; Sequence::WORDS as usize],
-    known: &mut [u8; Sequence::WORDS as usize],
-    s: Trail,
-) -> Trail
-    requires { (n ≤ length marks.now) × Room s }
-    ensures { TurnIs n marks.now s result }
-{
-    if s.mark != 0 {
-        return s;
-    }
-    if s.hints == 0 {
-        return Trail {
-            hints: 0,
-            calls: s.calls,
-            back: s.back,
-            at: n,
-            mark: 0,
-        };
-    }
-    take(n, marks, stack, known, s)
 }
 
 // From an address on, until no hint is left.
-fn follow(
-    words: &[u64],
-    marks: &mut [u64],
-    stack: &mut [u16; Sequence::WORDS as usize],
-    known: &mut [u8; Sequence::WORDS as usize],
-    calls: &mut [u16; Sequence::WORDS as usize],
-    from: Trail,
-    limit: u64,
-) -> Trail
+fn follow(words: &[u64], marks: &mut [u64], notes: &mut Notes, from: Trail, limit: u64) -> Trail
     requires { CanVisit words.now marks.old limit from }
     ensures { FollowDone limit words.now marks.old from marks.new result }
 {
     let n = words.len();
     let mut s = from;
+    // No index is counted: it ends where no hint is left.
     loop {
-        let v = visit(words, marks, stack, known, calls, s, limit);
-        s = turn(n, marks, stack, known, v);
+        let v = visit(words, marks, notes, s, limit);
+        s = notes.turn(n, marks, v);
         if n <= s.at {
             return s;
         }
@@ -417,14 +323,12 @@ fn first_unclean(words: &[u64], marks: &[u64], back: u64, limit: u64) -> usize
     ensures { UncleanIs limit words.now back marks.now result }
 {
     let n = words.len();
-    let mut a: usize = 0;
-    while a < n {
+    for a in 0..n {
         if !is_clean(words, marks, a, back, limit) {
             return a;
         }
-        a += 1;
     }
-    a
+    n
 }
 
 // A look at every address: the first that leads to what is not marked, or n; and where that is n, the first that faults, or n.
@@ -434,14 +338,12 @@ fn look_over(words: &[u64], marks: &[u64], back: u64, limit: u64) -> Look
 {
     let n = words.len();
     let faulty = first_unclean(words, marks, back, limit);
-    let mut a: usize = faulty;
-    while a < n {
+    for a in faulty..n {
         if !is_closed(words, marks, a, back, limit) {
             return Look { open: a, faulty };
         }
-        a += 1;
     }
-    Look { open: a, faulty }
+    Look { open: n, faulty }
 }
 
 // From marks that are sound and hold the start to the least set.
@@ -449,9 +351,11 @@ fn settle(words: &[u64], marks: &mut [u64], limit: u64) -> Seen
     requires { CanSettle limit words.now marks.old }
     ensures { Settled limit words.now marks.old marks.new result.back result.faulty.0 }
 {
-    let mut stack = [0u16; Sequence::WORDS as usize];
-    let mut known = [0u8; Sequence::WORDS as usize];
-    let mut calls = [0u16; Sequence::WORDS as usize];
+    let mut notes = Notes {
+        hints: [0; Sequence::WORDS as usize],
+        calls: [0; Sequence::WORDS as usize],
+        known: [0; Sequence::WORDS as usize],
+    };
     let mut s = Trail {
         hints: 0,
         calls: 0,
@@ -460,15 +364,15 @@ fn settle(words: &[u64], marks: &mut [u64], limit: u64) -> Seen
         mark: 0,
     };
     let mut l = look_over(words, marks, s.back, limit);
+    // No index is counted: it ends where a look finds nothing open.
     while l.open < words.len() {
         let a = l.open;
-        let mark = marks[a];
-        let mut from = s;
-        from.at = a;
-        from.mark = mark;
-        s = follow(
-            words, marks, &mut stack, &mut known, &mut calls, from, limit,
-        );
+        let from = Trail {
+            at: a,
+            mark: marks[a],
+            ..s
+        };
+        s = follow(words, marks, &mut notes, from, limit);
         l = look_over(words, marks, s.back, limit);
     }
     Seen {
@@ -477,24 +381,12 @@ fn settle(words: &[u64], marks: &mut [u64], limit: u64) -> Seen
     }
 }
 
-// Nothing at the first n addresses.
-fn clear(marks: &mut [u64], n: usize)
-    requires { n ≤ length marks.old }
-    ensures { Cleared n marks.old marks.new }
-{
-    let mut a: usize = 0;
-    while a < n {
-        marks[a] = 0;
-        a += 1;
-    }
-}
-
 // The marks of the walk.
 pub fn walk(words: &[u64], marks: &mut [u64], limit: u64) -> Seen
     requires { MarksFit words.now marks.old 0 limit × (0 < length words.now) }
     ensures { Settled limit words.now marks.old marks.new result.back result.faulty.0 }
 {
-    clear(marks, words.len());
+    marks[..words.len()].fill(0);
     marks[0] = 1;
     settle(words, marks, limit)
 }

@@ -5,7 +5,7 @@
 ghost use Rattle.std.specs.Prelude.{◌≡◌};
 ghost use Rattle.writer.specs.Writing.{asked_of, written_of};
 
-use instruction::{Instruction, Refusal, Rules};
+use instruction::{Instruction, Refusal, Rules, told};
 use laid::widths::fits;
 use laid::word::word_of;
 
@@ -22,7 +22,7 @@ fn asked(i: Instruction, rules: Rules) -> u64
     if !fits(i) {
         return Refusal::TOO_WIDE;
     }
-    i.form(rules)
+    told(i.form(rules))
 }
 
 pub fn write(i: Instruction, rules: Rules) -> Written

@@ -1,4 +1,5 @@
 -- Line by line, with a level.
+use mathlib.Core.Path.{refl}
 use native.Mathlib.Omega.{arith}
 use Rattle.block.proofs.Judging.{judging_open, judging_end, judging_bad, judging_few, judging_next}
 use Rattle.block.proofs.judge.Goals as goal
@@ -16,4 +17,4 @@ pub returns-then-level-ne0 : goal.returns-then-level-ne0
 returns-then-level-ne0 c = judging_open c.args.wave.0 c.args.text.now c.args.sizes.now c.loop-at.invariant c.loop-at-test.false c.if-level-ne0.true c.refused-then-level-ne0.ensures
 
 pub returns : goal.returns
-returns c = judging_end c.args.wave.0 c.args.text.now c.args.sizes.now c.loop-at.invariant c.loop-at-test.false c.if-level-ne0.false c.accepted.ensures
+returns c = judging_end c.args.wave.0 c.args.text.now c.args.sizes.now c.loop-at.invariant c.loop-at-test.false c.if-level-ne0.false refl

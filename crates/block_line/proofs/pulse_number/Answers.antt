@@ -11,10 +11,10 @@ returns-then-not-waveform_fits c = pulse_wide c.args.wave.0 c.args.f
 pub returns-then-form-ne0 : goal.returns-then-form-ne0
 returns-then-form-ne0 c = pulse_formed c.args.wave.0 c.args.f
     (sym c.waveform_fits.ensures ∙ c.if-not-waveform_fits.false)
-    (c.form-form.ensures current) c.if-form-ne0.true
+    (c.told-form.ensures ∙ c.form.ensures current) c.if-form-ne0.true
 
 pub returns : goal.returns
-returns c = c.placing.ensures
+returns c = c.told.ensures ∙ c.placing.ensures
     ∙ pulse_placed c.args.wave.0 c.args.f
     (sym c.waveform_fits.ensures ∙ c.if-not-waveform_fits.false)
-    (c.form-form.ensures current) c.if-form-ne0.false
+    (c.told-form.ensures ∙ c.form.ensures current) c.if-form-ne0.false

@@ -7,4 +7,4 @@ pub returns-then-starts_with-2 : goal.returns-then-starts_with-2
 returns-then-starts_with-2 c = end_taken c.args.text.now c.args.at (sym c.starts_with-2.ensures ∙ c.if-starts_with-2.true)
 
 pub returns : goal.returns
-returns c = nameless c.args.text.now c.args.at c.requires c.unshaped.ensures (sym c.if-ta-ne-NEITHER.false ∙ c.held_at-ta.ensures) (sym c.starts_with.ensures ∙ c.if-starts_with.false) (sym c.starts_with-2.ensures ∙ c.if-starts_with-2.false)
+returns c = nameless c.args.text.now c.args.at c.requires c.unshaped.ensures c.in_default.ensures (sym c.starts_with.ensures ∙ c.if-starts_with.false) (sym c.starts_with-2.ensures ∙ c.if-starts_with-2.false)

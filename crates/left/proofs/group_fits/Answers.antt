@@ -1,5 +1,5 @@
 -- How many, and then word by word.
-use mathlib.Core.Path.{◌≡◌, sym, ap, ◌∙◌}
+use mathlib.Core.Path.{◌≡◌, refl, sym, ap, ◌∙◌}
 use Prim.Native.Nat.{ℕ, ◌-◌}
 use native.Mathlib.Omega.{arith}
 use Rattle.dispatch.specs.Trace.{part}
@@ -21,6 +21,6 @@ returns c messages room = let a = c.args in
     let e = fixed_by a.words.now messages room a.setting in
     let w = group_within e a.s c.if-s-held.false in
     let same : a.s.address.0 - (a.s.address.0 - a.s.held) ≡ a.s.held = omega (arith, w.1) in
-    c.can_all_be_held.ensures messages room
+    c.can_all_be_held.ensures a.words.now messages room refl
     ∙ ap (λ (k : ℕ). can_all_be_held e (part (a.s.address.0 - a.s.held) k a.words.now)) same
     ∙ sym (group_words e a.s c.if-held-ge-GROUP.false w.0 w.1)

@@ -32,17 +32,17 @@ returns-in-Goto c = let a = c.args in
 pub returns-in-Call : goal.returns-in-Call
 unfolding act_of
 returns-in-Call c = let a = c.args in
-    rw c.in-Call.is (quiet a.s.sent a.trace.now (call_quiet _ _) (c.call.ensures a.waits.now a.totals.now))
+    rw c.in-Call.is (quiet a.s.sent a.trace.now (call_quiet _ _) c.call.ensures)
 
 pub returns-in-Return : goal.returns-in-Return
 unfolding act_of
 returns-in-Return c = let a = c.args in
-    rw c.in-Return.is (quiet a.s.sent a.trace.now (return_quiet _) (c.ret.ensures a.waits.now a.totals.now))
+    rw c.in-Return.is (quiet a.s.sent a.trace.now (return_quiet _) c.ret.ensures)
 
 pub returns-in-LoadCmp : goal.returns-in-LoadCmp
 unfolding act_of
 returns-in-LoadCmp c = let a = c.args in
-    rw c.in-LoadCmp.is (quiet a.s.sent a.trace.now (message_quiet _ _) (c.message.ensures a.returns.now a.counters.now a.waits.now a.totals.now))
+    rw c.in-LoadCmp.is (quiet a.s.sent a.trace.now (message_quiet _ _) (c.message.ensures a.arrays.now))
 
 pub returns-in-Prefetch : goal.returns-in-Prefetch
 unfolding act_of

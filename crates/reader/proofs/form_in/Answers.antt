@@ -14,5 +14,6 @@ pub returns-then-not_its_op : goal.returns-then-not_its_op
 returns-then-not_its_op c = sym (coarse_12 c.args.rules c.args.word (omega (arith, c.if-code-gt-PREFETCH.false, c.code_in-code.ensures)) (sym c.has_unnamed.ensures ∙ c.if-has_unnamed.false) (sym c.not_its_op.ensures ∙ c.if-not_its_op.true))
 
 pub returns : goal.returns
-returns c = c.form_in.ensures
+returns c = c.told.ensures
+    ∙ c.form_in.ensures
     ∙ sym (coarse_rest c.args.rules c.args.word (omega (arith, c.if-code-gt-PREFETCH.false, c.code_in-code.ensures)) (sym c.has_unnamed.ensures ∙ c.if-has_unnamed.false) (sym c.not_its_op.ensures ∙ c.if-not_its_op.false))

@@ -10,6 +10,6 @@ pub returns-then-has_unnamed : goal.returns-then-has_unnamed
 returns-then-has_unnamed c = sym (coarse_111 c.args.rules c.args.word (omega (arith, c.requires)) (sym c.has_unnamed.ensures ∙ c.if-has_unnamed.true))
 
 pub returns-else-has_unnamed : goal.returns-else-has_unnamed
-returns-else-has_unnamed c = c.form.ensures
+returns-else-has_unnamed c = c.told.ensures ∙ c.form.ensures
     ∙ ap (λ f. body_form c.args.rules 0 (Marker f)) c.spelled_by.ensures
     ∙ sym (coarse_fields c.args.rules c.args.word 1 c.requires (omega arith) (λ z. omega arith) (λ z. omega arith) (sym c.has_unnamed.ensures ∙ c.if-has_unnamed.false))

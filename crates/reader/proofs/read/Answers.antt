@@ -4,7 +4,7 @@ use Prim.Native.Nat.{ℕ, ◌<◌}
 use native.Mathlib.Omega.{arith}
 use Rattle.instruction.specs.Word.{code_in, spelled_by}
 use Rattle.reader.specs.Reading.{refused_with, judged}
-use Rattle.reader.specs.declared.Reading.TheVariants.{Refused}
+use Rattle.std.specs.declared.result.Result.TheVariants.{Err}
 use Rattle.reader.proofs.Laws.{reads_noop, reads_form, form_10, with_unnamed, refuses_unnamed}
 use Rattle.reader.proofs.read.Goals as goal
 
@@ -21,7 +21,7 @@ returns-then-has_unnamed c = let w = c.args.word in
     let rules = c.args.rules in
     let code : code_in w < 13 = omega (arith, c.if-code_in-gt-PREFETCH.false, c.code_in.ensures) in
     let unnamed = sym c.has_unnamed.ensures ∙ c.if-has_unnamed.true in
-    ap Refused (c.finer.ensures ∙ sym (with_unnamed rules w code unnamed)) ∙ sym (refuses_unnamed rules w c.if-word-eq-NOOP.false code unnamed)
+    ap Err (c.finer.ensures ∙ sym (with_unnamed rules w code unnamed)) ∙ sym (refuses_unnamed rules w c.if-word-eq-NOOP.false code unnamed)
 
 pub returns : goal.returns
 returns c = c.read_named.ensures ∙ sym (reads_form c.args.rules c.args.word c.if-word-eq-NOOP.false)

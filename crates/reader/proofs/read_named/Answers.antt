@@ -9,10 +9,10 @@ use Rattle.reader.proofs.Coarse.{coarse_named}
 use Rattle.reader.proofs.read_named.Goals as goal
 
 pub returns-in-0 : goal.returns-in-0
-returns-in-0 c = c.judge.ensures ∙ read_as c.args.rules c.args.word 0 c.code_in.ensures c.in-0.is (omega (arith, c.requires.0)) c.requires.1 (λ z. omega arith) (λ z. omega arith) (c.form.ensures c.args.rules ∙ ap (λ f. body_form c.args.rules 0 (Waveform f)) c.spelled_by-f.ensures) (ap Waveform c.spelled_by-f.ensures)
+returns-in-0 c = c.judge.ensures ∙ read_as c.args.rules c.args.word 0 c.code_in.ensures c.in-0.is (omega (arith, c.requires.0)) c.requires.1 (λ z. omega arith) (λ z. omega arith) (c.told.ensures ∙ c.form.ensures c.args.rules ∙ ap (λ f. body_form c.args.rules 0 (Waveform f)) c.spelled_by-f.ensures) (ap Waveform c.spelled_by-f.ensures)
 
 pub returns-in-1 : goal.returns-in-1
-returns-in-1 c = c.judge-in-1.ensures ∙ read_as c.args.rules c.args.word 1 c.code_in.ensures c.in-1.is (omega (arith, c.requires.0)) c.requires.1 (λ z. omega arith) (λ z. omega arith) (c.form-in-1.ensures ∙ ap (λ f. body_form c.args.rules 0 (Marker f)) c.spelled_by-f-in-1.ensures) (ap Marker c.spelled_by-f-in-1.ensures)
+returns-in-1 c = c.judge-in-1.ensures ∙ read_as c.args.rules c.args.word 1 c.code_in.ensures c.in-1.is (omega (arith, c.requires.0)) c.requires.1 (λ z. omega arith) (λ z. omega arith) (c.told-in-1.ensures ∙ c.form-in-1.ensures ∙ ap (λ f. body_form c.args.rules 0 (Marker f)) c.spelled_by-f-in-1.ensures) (ap Marker c.spelled_by-f-in-1.ensures)
 
 pub returns-in-2 : goal.returns-in-2
 returns-in-2 c = c.judge-in-2.ensures ∙ read_by c.args.rules c.args.word 2 c.code_in.ensures c.in-2.is c.requires.1 (c.form_in.ensures ∙ coarse_named _ _ (omega (arith, c.requires.0)) c.requires.1) refl
@@ -39,7 +39,7 @@ pub returns-in-9 : goal.returns-in-9
 returns-in-9 c = c.judge-in-9.ensures ∙ read_by c.args.rules c.args.word 9 c.code_in.ensures c.in-9.is c.requires.1 (c.form_in-in-9.ensures ∙ coarse_named _ _ (omega (arith, c.requires.0)) c.requires.1) refl
 
 pub returns-in-10 : goal.returns-in-10
-returns-in-10 c = c.judge-in-10.ensures ∙ read_as c.args.rules c.args.word 10 c.code_in.ensures c.in-10.is (omega (arith, c.requires.0)) c.requires.1 (λ z. omega arith) (λ z. omega arith) (c.form-in-10.ensures c.args.rules ∙ ap (λ f. body_form c.args.rules 0 (Modulator f)) c.spelled_by-f-in-10.ensures) (ap Modulator c.spelled_by-f-in-10.ensures)
+returns-in-10 c = c.judge-in-10.ensures ∙ read_as c.args.rules c.args.word 10 c.code_in.ensures c.in-10.is (omega (arith, c.requires.0)) c.requires.1 (λ z. omega arith) (λ z. omega arith) (c.told-in-10.ensures ∙ c.form-in-10.ensures c.args.rules ∙ ap (λ f. body_form c.args.rules 0 (Modulator f)) c.spelled_by-f-in-10.ensures) (ap Modulator c.spelled_by-f-in-10.ensures)
 
 pub returns-in-11 : goal.returns-in-11
 returns-in-11 c = c.judge-in-11.ensures ∙ read_as c.args.rules c.args.word 11 c.code_in.ensures c.in-11.is (omega (arith, c.requires.0)) c.requires.1 (λ z. omega arith) (λ z. omega arith) refl refl

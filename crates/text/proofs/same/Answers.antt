@@ -1,7 +1,7 @@
--- Byte by byte, where there are as many.
-use mathlib.Core.Path.{sym}
-use Rattle.text.proofs.Alike.{same_sizes}
+-- By pairs, as the library compares.
+use mathlib.Core.Path.{◌∙◌}
+use Rattle.text.proofs.Alike.{same_pairs}
 use Rattle.text.proofs.same.Goals as goal
 
-pub returns-then-a-b : goal.returns-then-a-b
-returns-then-a-b c = sym (same_sizes c.args.a.now c.args.b.now c.if-a-b.true)
+pub returns : goal.returns
+returns c = c.eq.ensures ∙ same_pairs c.args.a.now c.args.b.now

@@ -1,10 +1,7 @@
--- As long as the other text, and the same.
+-- By pairs, as the library compares.
 use mathlib.Core.Path.{◌∙◌}
-use Rattle.text.proofs.Alike.{starts_none, starts_at}
+use Rattle.text.proofs.Alike.{starts_at}
 use Rattle.text.proofs.starts_with.Goals as goal
 
-pub returns-then-text-at : goal.returns-then-text-at
-returns-then-text-at c = starts_none c.args.name.now c.args.text.now c.args.at c.if-text-at.true
-
 pub returns : goal.returns
-returns c = c.same.ensures ∙ starts_at c.args.name.now c.args.text.now c.args.at c.if-text-at.false
+returns c = c.starts_with.ensures.value ∙ starts_at c.args.name.now c.args.text.now c.args.at

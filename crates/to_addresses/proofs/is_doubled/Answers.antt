@@ -2,5 +2,5 @@
 use Rattle.to_addresses.proofs.Judging.{double_is}
 use Rattle.to_addresses.proofs.is_doubled.Goals as goal
 
-pub returns-then-known : goal.returns-then-known
-returns-then-known c = double_is c.args.text.now c.args.known c.args.j c.args.name.now c.requires c.if-known.true
+pub returns-in-Some : goal.returns-in-Some
+returns-in-Some c = double_is c.args.text.now c.args.known c.args.j c.args.name.now c.requires c.in-Some.is

@@ -6,4 +6,4 @@ use Rattle.buffer.proofs.Laws.{puts_three}
 use Rattle.to_addresses.proofs.put_plain.Goals as goal
 
 pub returns : goal.returns
-returns c = puts_three (decimal c.args.a ++ (tab ∷ [])) c.args.line.now (line_feed ∷ []) c.args.out.now c.args.at c.requires c.put_address-next.ensures c.put_text-end.ensures c.put_end.ensures
+returns c = puts_three (decimal c.args.a ++ (tab ∷ [])) c.args.line.now (line_feed ∷ []) c.args.out.now c.args.at c.requires c.put_address-next.ensures c.lay-end.ensures c.put_end.ensures

@@ -6,4 +6,4 @@ use Rattle.buffer.proofs.Laws.{puts_three}
 use Rattle.to_labels.proofs.put_jump.Goals as goal
 
 pub returns : goal.returns
-returns c = puts_three c.args.front.now (letters "L") (c.args.target.now ++ (line_feed ∷ [])) c.args.out.now c.args.at c.requires c.put_text-end.ensures c.put_byte-next.ensures c.put_last.ensures
+returns c = puts_three c.args.front.now (letters "L") (c.args.target.now ++ (line_feed ∷ [])) c.args.out.now c.args.at c.requires c.lay-end.ensures c.put_byte-next.ensures c.put_last.ensures

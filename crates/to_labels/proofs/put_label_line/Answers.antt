@@ -7,4 +7,4 @@ use Rattle.to_labels.proofs.Laying.{label_front}
 use Rattle.to_labels.proofs.put_label_line.Goals as goal
 
 pub returns : goal.returns
-returns c = puts_three label_front (decimal c.args.a) (line_feed ∷ []) c.args.out.now c.args.at c.requires c.put_text-from.ensures c.put_number-end.ensures c.put_end.ensures
+returns c = puts_three label_front (decimal c.args.a) (line_feed ∷ []) c.args.out.now c.args.at c.requires c.lay-from.ensures c.put_number-end.ensures c.put_end.ensures

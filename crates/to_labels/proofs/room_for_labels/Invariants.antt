@@ -6,6 +6,3 @@ use Rattle.to_labels.proofs.room_for_labels.Given as goal
 
 abbrev pub invariant-loop-a : goal.invariant-loop-a
 invariant-loop-a l = Sizing l.n (rows_in (drop l.from l.text)) l.initial.left l.a l.marks l.base l.left
-
-abbrev pub decreases-loop-a : goal.decreases-loop-a
-decreases-loop-a l = l.a

@@ -3,5 +3,5 @@ use mathlib.Core.Path.{sym, ◌∙◌}
 use Rattle.typed.proofs.Numbers.{read_next}
 use Rattle.typed.proofs.number.Goals as goal
 
-pub loop-i-preserved : goal.loop-i-preserved
-loop-i-preserved c = rw c.grown-value.ensures (read_next _ _ _ _ c.loop-i-test.true c.loop-i.invariant (sym c.between.ensures ∙ c.if-not-between.false))
+pub loop-b-preserved : goal.loop-b-preserved
+loop-b-preserved c = rw (c.grown-value.ensures, c.from-limit.ensures) (read_next _ _ _ _ c.loop-b-test.true c.loop-b.invariant (sym c.is_ascii_digit.ensures.value ∙ c.if-not-is_ascii_digit.false))

@@ -6,27 +6,29 @@ use lib.ListN.{length}
 use Rattle.instruction.specs.Form.{numbered}
 use Rattle.verdict.specs.Check.{CheckIs, input, word, flow}
 use Rattle.verdict.specs.Flow.{verdict}
+use Rattle.sequence.proofs.Laws.{input_some}
 use Rattle.verdict.proofs.Words.{input_good, targets, all_pass}
 use Rattle.verdict.proofs.check.Goals as goal
 
-pub returns-then-input-ne0 : goal.returns-then-input-ne0
-returns-then-input-ne0 c = let s = c.args in
-    subst (λ (k : ℕ). CheckIs s.rules s.wave.0 s.words.now s.marks.now (verdict (numbered k) 0) s.marks.now) (sym c.input_refused-input.ensures)
-    (input (λ z. c.if-input-ne0.true (c.input_refused-input.ensures ∙ z)))
+pub returns-in-Err : goal.returns-in-Err
+returns-in-Err c = let s = c.args in
+    rw (c.numbered.ensures, c.number.ensures)
+    (subst (λ (k : ℕ). CheckIs s.rules s.wave.0 s.words.now s.marks.now (verdict (numbered k) 0) s.marks.now) (sym c.in-Err.ensures)
+    (input (λ z. input_some c.in-Err.bad (c.in-Err.ensures ∙ z))))
 
 pub returns-then-v-ne0 : goal.returns-then-v-ne0
-returns-then-v-ne0 c = word (sym c.input_refused-input.ensures ∙ c.if-input-ne0.false) c.judge_words-v.ensures c.if-v-ne0.true
+returns-then-v-ne0 c = word (sym c.in_default.ensures) c.judge_words-v.ensures c.if-v-ne0.true
 
 pub walk-seen-requires : goal.walk-seen-requires
 walk-seen-requires c = let s = c.args in
     let n = length s.words.now in
-    let g = input_good n s.wave.0 (length s.marks.now) (sym c.input_refused-input.ensures ∙ c.if-input-ne0.false) in
+    let g = input_good n s.wave.0 (length s.marks.now) (sym c.in_default.ensures) in
     (record { marks = g.1; room = omega arith; limit = omega arith }, g.0)
 
 pub judge-requires : goal.judge-requires
 judge-requires c = let s = c.args in
     let n = length s.words.now in
-    let g = input_good n s.wave.0 (length s.marks.now) (sym c.input_refused-input.ensures ∙ c.if-input-ne0.false) in
+    let g = input_good n s.wave.0 (length s.marks.now) (sym c.in_default.ensures) in
     let e : length c.walk-seen.new.marks ≡ length s.marks.now = c.walk-seen.auto.marks in
     let h = g.1 in
     record {
@@ -40,4 +42,4 @@ judge-requires c = let s = c.args in
 
 pub returns : goal.returns
 returns c = let s = c.args in
-    flow (sym c.input_refused-input.ensures ∙ c.if-input-ne0.false) (all_pass s.rules s.wave.0 s.words.now c.judge_words-v.ensures c.if-v-ne0.false) c.walk-seen.ensures.marked c.judge.ensures
+    flow (sym c.in_default.ensures) (all_pass s.rules s.wave.0 s.words.now c.judge_words-v.ensures c.if-v-ne0.false) c.walk-seen.ensures.marked c.judge.ensures

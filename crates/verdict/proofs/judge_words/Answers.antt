@@ -10,8 +10,8 @@ pub returns-then-refusal-ne0 : goal.returns-then-refusal-ne0
 returns-then-refusal-ne0 c = let l = c.loop-a in
     let s = c.args in
     subst (λ (r : Refusal). WordsAre s.rules s.wave.0 s.words.now (verdict r l.a)) (sym c.word_refusal-refusal.ensures)
-    (first c.loop-a-test.true l.invariant.1 (λ z. c.if-refusal-ne0.true (ap (λ (r : Refusal). r.number) c.word_refusal-refusal.ensures ∙ z)))
+    (first c.loop-a-test.true l.invariant (λ z. c.if-refusal-ne0.true (ap (λ (r : Refusal). r.number) c.word_refusal-refusal.ensures ∙ z)))
 
 pub returns : goal.returns
 returns c = let l = c.loop-a in
-    passed (λ b h. l.invariant.1 b (omega (arith, c.loop-a-test.false)))
+    rw c.numbered.ensures (passed (λ b h. l.invariant b (omega (arith, c.loop-a-test.false))))

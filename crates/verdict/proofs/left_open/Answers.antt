@@ -15,4 +15,4 @@ returns-then-write-ne0 c = rw (sym c.is_engine.ensures ∙ c.if-not-is_engine.fa
 
 pub returns : goal.returns
 unfolding left_open
-returns c = rw (sym c.is_engine.ensures ∙ c.if-not-is_engine.false, eq-eqb _ _ c.if-write-ne0.false) (ap not c.closes_from.ensures)
+returns c = rw (sym c.is_engine.ensures ∙ c.if-not-is_engine.false, eq-eqb _ _ c.if-write-ne0.false) (ap not c.closes.ensures)

@@ -2,11 +2,11 @@
 use Prim.Native.Nat.{ℕ, ◌<◌}
 use mathlib.Core.Path.{subst}
 use mathlib.Core.Bool.{Bool}
-use native.Mathlib.Nat.{le_antisymm}
+use lib.ListN.{length}
 use native.Mathlib.Omega.{arith}
 use Rattle.look.specs.Closed.{Tells, ClosedAt}
 use Rattle.look.proofs.Laws.{tells_yes, tells_no}
-use Rattle.walk.specs.Loops.{OpenIs, closed, first}
+use Rattle.walk.specs.Loops.{closed, first}
 use Rattle.walk.proofs.Laws.{below_more, unclean_fault}
 use Rattle.walk.proofs.look_over.Goals as goal
 
@@ -30,7 +30,5 @@ pub returns : goal.returns
 returns c = let s = c.args in
     let l = c.loop-a in
     let u = c.first_unclean-faulty in
-    subst (λ (z : ℕ). ((k : ℕ) → k < z → ClosedAt s.limit s.words.now s.back s.marks.now k) → OpenIs s.limit s.words.now s.back s.marks.now z u.result)
-    (le_antisymm c.loop-a-test.false l.invariant.0)
-    (λ all. closed all (unclean_fault s.limit s.words.now s.back s.marks.now u.result u.ensures all))
-    l.invariant.1
+    let all : (k : ℕ) → k < length s.words.now → ClosedAt s.limit s.words.now s.back s.marks.now k = λ k h. l.invariant.1 k (omega (arith, h, c.loop-a-test.false)) in
+    closed all (unclean_fault s.limit s.words.now s.back s.marks.now u.result u.ensures all)

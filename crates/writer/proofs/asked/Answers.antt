@@ -7,4 +7,4 @@ pub returns-then-not-fits : goal.returns-then-not-fits
 returns-then-not-fits c = sym (asked_wide _ _ (sym c.fits.ensures ∙ c.if-not-fits.true))
 
 pub returns : goal.returns
-returns c = c.form.ensures ∙ sym (asked_fitting _ _ (sym c.fits.ensures ∙ c.if-not-fits.false))
+returns c = c.told.ensures ∙ c.form.ensures ∙ sym (asked_fitting _ _ (sym c.fits.ensures ∙ c.if-not-fits.false))

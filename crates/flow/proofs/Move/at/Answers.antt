@@ -1,18 +1,20 @@
 -- Each arm is the move of what its code spells.
+use mathlib.Core.Path.{ap, ◌∙◌}
+use Rattle.flow.specs.declared.Move.TheVariants.{Loop, Jump, Enter}
 use Rattle.flow.proofs.Codes.{move_at_lem, move_other}
 use Rattle.flow.proofs.Move.at.Goals as goal
 
 pub returns-in-4 : goal.returns-in-4
-returns-in-4 c = move_at_lem c.args.word c.code_in.ensures c.in-4.is
+returns-in-4 c = ap Loop c.spelled_by-to.ensures ∙ move_at_lem c.args.word c.code_in.ensures c.in-4.is
 
 pub returns-in-5 : goal.returns-in-5
 returns-in-5 c = move_at_lem c.args.word c.code_in.ensures c.in-5.is
 
 pub returns-in-6 : goal.returns-in-6
-returns-in-6 c = move_at_lem c.args.word c.code_in.ensures c.in-6.is
+returns-in-6 c = ap Jump c.spelled_by-to.ensures ∙ move_at_lem c.args.word c.code_in.ensures c.in-6.is
 
 pub returns-in-7 : goal.returns-in-7
-returns-in-7 c = move_at_lem c.args.word c.code_in.ensures c.in-7.is
+returns-in-7 c = ap Enter c.spelled_by-to.ensures ∙ move_at_lem c.args.word c.code_in.ensures c.in-7.is
 
 pub returns-in-8 : goal.returns-in-8
 returns-in-8 c = move_at_lem c.args.word c.code_in.ensures c.in-8.is

@@ -1,7 +1,0 @@
--- The header of REPEAT, with its payload laid below.
-use Rattle.instruction.specs.Word.{word_of}
-use Rattle.laid.proofs.word.repeat_word.Goals as goal
-
-pub returns : goal.returns
-unfolding word_of
-returns c = rw (c.address_onto.ensures, c.header.ensures)

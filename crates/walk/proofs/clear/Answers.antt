@@ -1,1 +1,0 @@
--- The first a marks are clear, the others as they were.

@@ -1,1 +1,0 @@
--- An address of 16 bits.
