@@ -55,10 +55,11 @@ pub fn put_number(page: &mut [u8], at: usize, n: u64) -> usize
 {
     let end = at + digit_count(n);
     let mut rest = n;
-    for i in (at..end).rev() {
+    for i in (at + 1..end).rev() {
         page[i] = last_digit(rest);
         rest /= 10;
     }
+    page[at] = last_digit(rest);
     end
 }
 
@@ -96,7 +97,7 @@ pub fn put_value(page: &mut [u8], at: usize, n: u64) -> usize
 }
 
 // The last numbers of a line.
-#[inline(never)]
+#[inline(always)]
 pub fn put_numbers(page: &mut [u8], at: usize, numbers: &[u64]) -> usize
     requires { Fits (rest_text (map number numbers.now)) page.old at }
     ensures { Put (rest_text (map number numbers.now)) page.old at page.new result }
