@@ -59,7 +59,7 @@ impl Question<'_> {
         let Options { json, rules, .. } = self.asked.options;
         let words = self.source.words;
         if json {
-            file::begin(self.system, self.asked.file, Status::Accepted);
+            file::begin(self.system, self.asked.file, Status::Accepted.number());
             let firmware = Firmware(rules);
             let listing = Words { words, rules };
             print!(self.system; r#","firmware":{firmware},"listing":{listing}"#);
@@ -70,6 +70,7 @@ impl Question<'_> {
         Ending::ACCEPTED
     }
 
+    #[inline(never)]
     pub fn check(self) -> Ending {
         let Asked { wave, options, .. } = self.asked;
         let rules = options.rules;
@@ -111,7 +112,7 @@ impl Question<'_> {
         let system = self.system;
         let Asked { wave, options, .. } = self.asked;
         let words = self.source.words.len();
-        file::begin(system, self.asked.file, End(answer.end).status());
+        file::begin(system, self.asked.file, End(answer.end).status().number());
         print!(system; r#","end":{},"bit":{}"#, answer.end.number, answer.end.bit);
         if let Some(line) = self.source.line_of(answer.state.core.address) {
             print!(system; r#","line":{line}"#);
@@ -162,6 +163,7 @@ impl Question<'_> {
         self.tell(answer, front(trace, answer.state.core.sent))
     }
 
+    #[inline(never)]
     pub fn run(self) -> Result<Ending, Said> {
         let mut messages = io::large_buffer();
         let mut numbers = space::for_words();
@@ -206,7 +208,7 @@ pub fn say_bad_text(system: System, bad: BadText<'_>) {
 
 // The same by name, for the file that an argument names.
 pub fn say_bad_text_by_name(system: System, bad: BadText<'_>, argument: usize) {
-    file::begin(system, argument, Status::Refused);
+    file::begin(system, argument, Status::Refused.number());
     let line = bad.line.unwrap_or(0);
     print!(system; r#","number":{},"line":{line}"#, bad.number);
     file::end(system);

@@ -27,7 +27,7 @@ impl Ending {
     }
 
     pub fn tell(self) {
-        told::ends(self.status, self.number);
+        told::ends(self.status.number(), self.number);
     }
 }
 

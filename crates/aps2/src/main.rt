@@ -35,7 +35,7 @@ fn find<'a>(system: System, asked: Asked, rooms: Rooms<'a>) -> Result<Source<'a>
 
 fn without_words(system: System, asked: Asked) {
     if asked.options.json {
-        as_json::file::begin(system, asked.file, Status::NoAnswer);
+        as_json::file::begin(system, asked.file, Status::NoAnswer.number());
         as_json::file::end(system);
     }
 }

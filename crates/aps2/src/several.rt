@@ -61,6 +61,7 @@ impl fmt::Display for Tally {
 }
 
 // The name of the file, as it was given.
+#[inline(never)]
 fn say_name(system: System, asked: Asked) {
     let mut buffer = io::large_buffer();
     system.print_bytes(system.name(asked.file, &mut buffer));
@@ -68,7 +69,7 @@ fn say_name(system: System, asked: Asked) {
 
 fn say_no_answer(system: System, asked: Asked) {
     if asked.options.json {
-        file::begin(system, asked.file, Status::NoAnswer);
+        file::begin(system, asked.file, Status::NoAnswer.number());
         file::end(system);
         return;
     }
@@ -142,7 +143,7 @@ fn judge(question: Question<'_>) -> Status {
         Status::Refused
     };
     if asked.options.json {
-        file::begin(system, asked.file, status);
+        file::begin(system, asked.file, status.number());
         say_verdict_by_name(question, verdict);
     } else {
         say_name(system, asked);

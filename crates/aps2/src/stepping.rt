@@ -46,6 +46,7 @@ fn teach(question: Question<'_>, messages: &mut [u8], n: usize) -> Ending
     }
 }
 
+#[inline(never)]
 pub fn step(question: Question<'_>) -> Result<Ending, Said> {
     let mut messages = io::large_buffer();
     let mut numbers = space::for_words();

@@ -47,7 +47,7 @@ fn show(system: System, input: &[u8]) {
     let n = list(input, Rules::CURRENT, &mut out);
     if let Some(listing) = out.get(..n) {
         system.print_bytes(listing);
-        told::ends(Status::Accepted, 0);
+        told::ends(Status::Accepted.number(), 0);
     }
 }
 
@@ -58,7 +58,7 @@ fn main(rt: HostRuntime) {
         Ok(n) => show(system, &bytes[..n]),
         Err(error) => {
             complain_of_file(system, b"standard input", error);
-            told::ends(Status::NoAnswer, 0);
+            told::ends(Status::NoAnswer.number(), 0);
         }
     }
 }

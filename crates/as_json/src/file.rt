@@ -3,7 +3,6 @@
 use instruction::Rules;
 use std::fmt;
 use system::System;
-use told::Status;
 
 // A name between quotes.
 #[derive(Clone, Copy)]
@@ -48,10 +47,9 @@ impl fmt::Display for Firmware {
 }
 
 // An object begins with its file, which an argument names, and the exit status that it would have alone.
-pub fn begin(system: System, argument: usize, status: Status) {
+pub fn begin(system: System, argument: usize, status: u64) {
     let mut buffer = io::large_buffer();
     let name = Name(system.name(argument, &mut buffer));
-    let status = status.number();
     print!(system; r#"{{"file":"{name}","status":{status}"#);
 }
 

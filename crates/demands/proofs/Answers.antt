@@ -4,7 +4,6 @@ use mathlib.Core.Path.{refl, sym, ap, ◌≡◌, ◌∙◌}
 use mathlib.Core.List.{List, []}
 use Prim.Native.Nat.{ℕ}
 use native.Mathlib.Omega.{arith}
-use Rattle.std.specs.Prelude.{Result}
 use Rattle.std.specs.declared.result.Result.TheVariants.{Ok, Err}
 use Rattle.instruction.specs.Form.{number_of, form_numbered, form_told_apart}
 use Rattle.instruction.specs.declared.BadForm.{BadForm}
@@ -23,13 +22,13 @@ use Rattle.jumps.specs.declared.Stepped.{Stepped}
 use Rattle.look.specs.Closed.{holds, fails}
 use Rattle.verdict.proofs.Unique as unique
 use Rattle.listing_reader.proofs.Unique as read_back_lem
-use Rattle.demands.specs.Answers.{One, OneEqual, OneTold, OneForm, OneInput, OnePlace, OneFault, OneRead, OneWrite, OneRun, OneCheck, OneList, OneReadListing, OneStep, OneCall, OneReturn, OneCallLent, OneReturnLent, OneMessage, OneDispatch, OneLook, OneWalk, OneSeen}
+use Rattle.demands.specs.Answers.{One, OneEqual, OneTold, OneForm, OneInput, OnePlace, OneFault, OneRead, OneWrite, OneRun, OneCheck, OneList, OneReadListing, OneStep, OneStepLent, OneCall, OneReturn, OneCallLent, OneReturnLent, OneMessage, OneMessageLent, OneDispatch, OneLook, OneWalk, OneSeen}
 
 pub one_answer_equation : OneEqual
 one_answer_equation A d r r' p q = p ∙ sym q
 
 -- no two of a kind have one number, and none has 0
-one_told : (E : Type 0) (number : E → ℕ) (numbered : ℕ → E) → ((bad : E) → numbered (number bad) ≡ bad) → ((bad : E) → number bad ≡ 0 → ⊥) → OneTold E number
+pub one_told : (E : Type 0) (number : E → ℕ) (numbered : ℕ → E) → ((bad : E) → numbered (number bad) ≡ bad) → ((bad : E) → number bad ≡ 0 → ⊥) → OneTold E number
 one_told E number numbered apart some n (Ok a) (Ok b) p q = refl
 one_told E number numbered apart some n (Ok a) (Err bad) p q = absurd (some bad (q ∙ sym p))
 one_told E number numbered apart some n (Err bad) (Ok a) p q = absurd (some bad (p ∙ sym q))
@@ -97,6 +96,13 @@ one_answer_step e s before r r' p q =
     let trace = p.trace ∙ sym q.trace in
     λ i. (record { end = end i; core = (state i).core }, trace i, (state i).returns, (state i).counters, (state i).waits, (state i).totals)
 
+pub one_answer_step_lent : OneStepLent
+one_answer_step_lent e s arrays before r r' p q =
+    let end = p.done.end ∙ sym q.done.end in
+    let state = p.done.state ∙ sym q.done.state in
+    let trace = p.trace ∙ sym q.trace in
+    λ i. (record { end = end i; core = (state i).core }, trace i, arrays_of (state i))
+
 -- what is done with the stack lent, whatever the engines have counted
 one_jump : (does : List ℕ → List ℕ → Did) → One (Stepped × List ℕ × List ℕ) (λ r. (ws ts : List ℕ) → Done (does ws ts) r.0 r.1 r.2 ws ts)
 one_jump does r r' p q =
@@ -126,6 +132,13 @@ pub one_answer_message : OneMessage
 one_answer_message messages s r r' p q =
     let end = (p [] [] [] []).end ∙ sym (q [] [] [] []).end in
     let state = (p [] [] [] []).state ∙ sym (q [] [] [] []).state in
+    λ i. record { end = end i; core = (state i).core }
+
+pub one_answer_message_lent : OneMessageLent
+one_answer_message_lent messages s r r' p q =
+    let none : Arrays = record { returns = []; counters = []; waits = []; totals = [] } in
+    let end = (p none).end ∙ sym (q none).end in
+    let state = (p none).state ∙ sym (q none).state in
     λ i. record { end = end i; core = (state i).core }
 
 pub one_answer_dispatch : OneDispatch

@@ -10,7 +10,7 @@ use Rattle.writer.specs.Writing.{written_of}
 use Rattle.writer.specs.declared.Written.{Written}
 use Rattle.dispatch.specs.Trace.{Dispatched}
 use Rattle.jumps.specs.State.{Fixed, state_of}
-use Rattle.jumps.specs.Lent.{Done, DoneIn, Traced, state_in}
+use Rattle.jumps.specs.Lent.{Done, DoneIn, Traced, Leaves, state_in}
 use Rattle.jumps.specs.Jumps.{call_of, return_of, message_of}
 use Rattle.jumps.specs.declared.Arrays.{Arrays}
 use Rattle.jumps.specs.declared.Core.{Core}
@@ -85,6 +85,12 @@ OneStep =
     (e : Fixed) (s : State) (before : List ℕ)
     → One (Stepped × List ℕ × List ℕ × List ℕ × List ℕ × List ℕ) (λ r. Traced (step_of e s) s.core.sent before r.1 r.0 r.2 r.3 r.4 r.5)
 
+-- and with those arrays lent as one
+abbrev pub OneStepLent : Type 0
+OneStepLent =
+    (e : Fixed) (s : Core) (arrays : Arrays) (before : List ℕ)
+    → One (Stepped × List ℕ × Arrays) (λ r. Leaves (step_of e (state_in s arrays)) s.sent before r.1 r.0 r.2)
+
 -- CALL and RETURN, with the stack lent to them, and LOAD_CMP; what is not lent stays, whatever it is
 abbrev pub OneCall : Type 0
 OneCall =
@@ -105,6 +111,9 @@ OneReturnLent = (s : Core) (arrays : Arrays) → One (Stepped × Arrays) (λ r. 
 
 abbrev pub OneMessage : Type 0
 OneMessage = (messages : List ℕ) (s : Core) → One Stepped (λ r. (rs cs ws ts : List ℕ) → Done (message_of messages (state_of s rs cs ws ts)) r rs cs ws ts)
+
+abbrev pub OneMessageLent : Type 0
+OneMessageLent = (messages : List ℕ) (s : Core) → One Stepped (λ r. (arrays : Arrays) → DoneIn (message_of messages (state_in s arrays)) r arrays)
 
 -- the dispatcher, with the trace, the waits and the totals
 abbrev pub OneDispatch : Type 0

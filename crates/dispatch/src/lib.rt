@@ -167,8 +167,8 @@ fn write_all(
     requires { CanCount group.now waits.old totals.old × (length group.now ≤ length room.old) }
     ensures { (room.new ≡ group.now ++ drop (length group.now) room.old) × CountedAll group.now waits.old totals.old waits.new totals.new }
 {
-    room[..group.len()].copy_from_slice(group);
-    for word in group {
+    for (i, word) in group.iter().enumerate() {
+        room[i] = *word;
         count(Share::in_word(*word), waits, totals);
     }
 }

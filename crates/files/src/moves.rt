@@ -39,7 +39,9 @@ fn lay_word(address: u64, word: u64, rules: Rules, text: &mut [u8], at: usize) -
 }
 
 // The listing of words, as far as there is room. That of no words is its header, whatever the rules.
-fn lay_listing<'a>(words: &[u64], rules: Rules, text: &'a mut [u8]) -> &'a [u8] {
+fn lay_listing<'a>(words: &[u64], rules: Rules, text: &'a mut [u8]) -> &'a [u8]
+    ensures { length result.now ≤ length text.old }
+{
     let mut at = listing::list(b"", rules, text).min(text.len());
     for (address, word) in words.iter().enumerate() {
         at = lay_word(address as u64, *word, rules, text, at);

@@ -48,7 +48,15 @@ fn last_digit(n: u64) -> u8
     b'0' + d as u8
 }
 
-// A number in decimal, from its last digit to its first.
+// The same of a number of one digit.
+fn one_digit(n: u64) -> u8
+    requires { n < 10 }
+    ensures { result ≡ digit n }
+{
+    b'0' + n as u8
+}
+
+// A number in decimal, from its last digit to its first, which is all that is left then.
 pub fn put_number(page: &mut [u8], at: usize, n: u64) -> usize
     requires { Fits (decimal n) page.old at }
     ensures { Put (decimal n) page.old at page.new result }
@@ -59,7 +67,7 @@ pub fn put_number(page: &mut [u8], at: usize, n: u64) -> usize
         page[i] = last_digit(rest);
         rest /= 10;
     }
-    page[at] = last_digit(rest);
+    page[at] = one_digit(rest);
     end
 }
 

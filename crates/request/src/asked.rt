@@ -83,6 +83,7 @@ fn after(system: System, command: Command) -> Option<Asked> {
 }
 
 // All that is asked for, where it can be understood.
+#[inline(never)]
 pub fn read(system: System) -> Option<Asked> {
     let mut room = [0u8; 16];
     match Command::named(system.name(1, &mut room)) {

@@ -13,11 +13,16 @@ use Rattle.buffer.specs.Put.{put}
 use Rattle.buffer.proofs.Laws.{put_none}
 use Rattle.dispatch.proofs.Counts.{picks}
 use Rattle.jumps.specs.State.{Fixed}
+use Rattle.jumps.specs.Lent.{arrays_of}
 use Rattle.rehearsal.specs.Run.{input_refused}
 use Rattle.left.specs.Left.{could_be_left}
-use Rattle.paused.specs.Pause.{call_refused, Went}
-use Rattle.resumed.specs.Resumed.{RefusedChangesNothing, OneCalled, OneRunFrom}
+use Rattle.paused.specs.Pause.{call_number, call_numbered, call_told_apart, call_refused, Went}
+use Rattle.resumed.specs.Resumed.{RefusedChangesNothing, OneCalled, OneRunFrom, OneRunFromLent, OneBadCall}
+use Rattle.paused.specs.declared.BadCall.{BadCall}
+use Rattle.paused.specs.declared.BadCall.TheVariants.{Input, NoSuchState, LessThanLastTime}
 use Rattle.paused.specs.declared.Paused.{Paused}
+use Rattle.sequence.proofs.Laws.{input_some}
+use Rattle.demands.proofs.Answers.{one_told}
 use Rattle.paused.proofs.Pauses.{input_of, call_input, call_last, called_refused_lem}
 
 -- ---- refusals
@@ -74,3 +79,18 @@ one_answer_run_from budget e s before r r' p q =
     let state = p.done.state ∙ sym q.done.state in
     let trace = p.trace ∙ sym q.trace in
     λ i. (record { end = end i; core = (state i).core }, trace i, (state i).returns, (state i).counters, (state i).waits, (state i).totals)
+
+pub one_answer_run_from_lent : OneRunFromLent
+one_answer_run_from_lent budget e s arrays before r r' p q =
+    let end = p.done.end ∙ sym q.done.end in
+    let state = p.done.state ∙ sym q.done.state in
+    let trace = p.trace ∙ sym q.trace in
+    λ i. (record { end = end i; core = (state i).core }, trace i, arrays_of (state i))
+
+call_some : (bad : BadCall) → call_number bad ≡ 0 → ⊥
+call_some (Input bad) e = input_some bad e
+call_some NoSuchState e = omega (arith, e)
+call_some LessThanLastTime e = omega (arith, e)
+
+pub one_answer_bad_call : OneBadCall
+one_answer_bad_call = one_told BadCall call_number call_numbered call_told_apart call_some

@@ -7,13 +7,16 @@ use Rattle.instruction.specs.declared.Refusal.{Refusal}
 use Rattle.instruction.specs.declared.Rules.{Rules}
 use Rattle.dispatch.specs.Engines.{engine_count}
 use Rattle.jumps.specs.State.{Fixed, fixed_by}
-use Rattle.jumps.specs.Lent.{Traced}
+use Rattle.jumps.specs.Lent.{Traced, Leaves, state_in}
+use Rattle.jumps.specs.declared.Arrays.{Arrays}
+use Rattle.jumps.specs.declared.Core.{Core}
 use Rattle.jumps.specs.declared.State.{State}
 use Rattle.jumps.specs.declared.Stepped.{Stepped}
 use Rattle.rehearsal.specs.Run.{run_of, rehearse, Rehearsed}
 use Rattle.demands.specs.Run.{played_on, awaited_on, sum_over}
-use Rattle.demands.specs.Answers.{One}
-use Rattle.paused.specs.Pause.{fresh_paused, call_refused, Went, called, Called}
+use Rattle.demands.specs.Answers.{One, OneTold}
+use Rattle.paused.specs.Pause.{fresh_paused, call_number, call_refused, Went, called, Called}
+use Rattle.paused.specs.declared.BadCall.{BadCall}
 use Rattle.paused.specs.declared.Paused.{Paused}
 use Rattle.paused.specs.declared.Pace.{Pace}
 use Rattle.paused.specs.declared.Pace.TheVariants.{On}
@@ -113,3 +116,13 @@ abbrev pub OneRunFrom : Type 0
 OneRunFrom =
     (budget : ℕ) (e : Fixed) (s : State) (before : List ℕ)
     → One (Stepped × List ℕ × List ℕ × List ℕ × List ℕ × List ℕ) (λ r. Traced (run_of budget e s) s.core.sent before r.1 r.0 r.2 r.3 r.4 r.5)
+
+-- and with those arrays lent as one
+abbrev pub OneRunFromLent : Type 0
+OneRunFromLent =
+    (budget : ℕ) (e : Fixed) (s : Core) (arrays : Arrays) (before : List ℕ)
+    → One (Stepped × List ℕ × Arrays) (λ r. Leaves (run_of budget e (state_in s arrays)) s.sent before r.1 r.0 r.2)
+
+-- what a call is refused for, told by its number
+abbrev pub OneBadCall : Type 0
+OneBadCall = OneTold BadCall call_number

@@ -1,6 +1,6 @@
 -- Laws of the sequence's definitions.
 -- Assumes nothing.
-use mathlib.Core.Path.{◌≡◌, refl, sym, ap, ◌∙◌}
+use mathlib.Core.Path.{◌≡◌, refl, sym, ap, subst, ◌∙◌}
 use mathlib.Core.Bool.{Bool, true, false, not, ◌||◌, ◌&&◌}
 use Prim.Native.Nat.{ℕ, ◌+◌, ◌-◌, ◌≤◌, ◌<◌}
 use native.Mathlib.Decide.{dec_lt}
@@ -10,6 +10,7 @@ use lib.Dec.{ltb, eqb, leb}
 use Rattle.instruction.specs.declared.WaveformFields.{WaveformFields}
 use Rattle.instruction.specs.declared.MarkerFields.{MarkerFields}
 use Rattle.instruction.specs.declared.ModulatorFields.{ModulatorFields}
+use Rattle.instruction.specs.declared.WordAddress.{WordAddress}
 use Rattle.instruction.specs.declared.Body.{Body}
 use Rattle.instruction.specs.declared.Body.TheVariants.{Waveform, Marker, Wait, LoadRepeat, Repeat, Cmp, Goto, Call, Return, Sync, Modulator, LoadCmp, Prefetch, Noop}
 use Rattle.instruction.specs.Bits.{pick}
@@ -85,6 +86,49 @@ wave_plain wave f e =
 
 pub wave_other : (wave : ℕ) (f : WaveformFields) → (eqb f.op 0 && eqb f.ta 0) ≡ false → ((eqb f.op 0 || eqb f.op 3) && not (ltb f.address.0 wave)) ≡ out_of_wave wave f
 wave_other wave f e = other (eqb f.op 0) (eqb f.ta 0) (eqb f.op 3) (not (leb (f.address.0 + f.count.0) wave)) (not (ltb f.address.0 wave)) e
+
+-- ---- whether there is a number, and then which
+
+flag : (p : Bool) (k : ℕ) → eqb k 0 ≡ false → p ≡ not (eqb (pick p k 0) 0)
+flag true k e = ap not (sym e)
+flag false k e = refl
+
+given : (p : Bool) (k : ℕ) → not (eqb (pick p k 0) 0) ≡ true → k ≡ pick p k 0
+given true k e = refl
+given false k e = let w : ◌≡◌ {A = ℕ} 0 1 = cc in absurd (omega arith)
+
+pub wave_misplaced : (wave n : ℕ) (f : WaveformFields) → out_of_wave wave f ≡ not (eqb (placing_of wave n (Waveform f)) 0)
+unfolding placing_of
+wave_misplaced wave n f = flag (out_of_wave wave f) 20 refl
+
+of_waveform : (wave n : ℕ) (f : WaveformFields) → not (eqb (placing_of wave n (Waveform f)) 0) ≡ true → 20 ≡ placing_of wave n (Waveform f)
+unfolding placing_of
+of_waveform wave n f e = given (out_of_wave wave f) 20 e
+
+pub wave_number : (wave n : ℕ) {b : Body} (f : WaveformFields) → b ≡ Waveform f → not (eqb (placing_of wave n b) 0) ≡ true → 20 ≡ placing_of wave n b
+wave_number wave n f q = subst (λ (b : Body). not (eqb (placing_of wave n b) 0) ≡ true → 20 ≡ placing_of wave n b) (sym q) (of_waveform wave n f)
+
+pub word_misplaced : (n : ℕ) (a : WordAddress) → leb n a.0 ≡ not (eqb (placing_of 0 n (Goto a)) 0)
+unfolding placing_of
+word_misplaced n a = flag (leb n a.0) 21 refl
+
+-- 21, of any other name
+pub word_number : (wave n : ℕ) (b : Body) → ((f : WaveformFields) → b ≡ Waveform f → ⊥) → not (eqb (placing_of wave n b) 0) ≡ true → 21 ≡ placing_of wave n b
+unfolding placing_of
+word_number wave n (Waveform f) o e = absurd (o f refl)
+word_number wave n (Marker f) o e = given false 21 e
+word_number wave n Wait o e = given false 21 e
+word_number wave n (LoadRepeat r) o e = given false 21 e
+word_number wave n (Repeat a) o e = given (leb n a.0) 21 e
+word_number wave n (Cmp x) o e = given false 21 e
+word_number wave n (Goto a) o e = given (leb n a.0) 21 e
+word_number wave n (Call a) o e = given (leb n a.0) 21 e
+word_number wave n (Return p) o e = given false 21 e
+word_number wave n Sync o e = given false 21 e
+word_number wave n (Modulator f) o e = given false 21 e
+word_number wave n (LoadCmp p) o e = given false 21 e
+word_number wave n (Prefetch a) o e = given (leb n a.0) 21 e
+word_number wave n Noop o e = given false 21 e
 
 -- ---- no number is 0, which refuses nothing
 

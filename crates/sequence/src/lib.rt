@@ -2,7 +2,7 @@
 // Check and run judge by what stands here, so that both mean the same.
 #![tactic(auto)]
 
-ghost use Rattle.std.specs.Prelude.{◌≡◌, not, ◌+◌, leb};
+ghost use Rattle.std.specs.Prelude.{◌≡◌, not, ◌+◌, eqb, leb};
 ghost use Rattle.instruction.specs.Form.{told};
 ghost use Rattle.sequence.specs.Numbers.{input_number, input_numbered, input_told_apart, place_number, place_numbered, place_told_apart, fault_number, fault_numbered, fault_told_apart};
 ghost use Rattle.sequence.specs.Bounds.{lengths_refused};
@@ -170,46 +170,44 @@ impl Sequence {
         ((op == EngineOp::PLAY) | (op == EngineOp::PREFETCH)) & !(address.0 < wave.0)
     }
 
-    fn waveform_placing(wave: QuadSamples, f: WaveformFields) -> Result<(), Misplaced>
-        ensures { told place_number result ≡ placing_of wave.0 0 (Body.Waveform f) }
+    fn out_of_words(n: u64, a: WordAddress) -> bool
+        ensures { result ≡ leb n a.0 }
     {
-        if Sequence::out_of_wave(wave, f) {
-            Err(Misplaced::OutOfWave)
-        } else {
-            Ok(())
+        n <= a.0
+    }
+
+    fn is_misplaced(wave: QuadSamples, n: u64, body: Body) -> bool
+        ensures { result ≡ not (eqb (placing_of wave.0 n body) 0) }
+    {
+        match body {
+            Body::Waveform(f) => Sequence::out_of_wave(wave, f),
+            Body::Marker(_) => false,
+            Body::Wait => false,
+            Body::LoadRepeat(_) => false,
+            Body::Repeat(a) => Sequence::out_of_words(n, a),
+            Body::Cmp(_) => false,
+            Body::Goto(a) => Sequence::out_of_words(n, a),
+            Body::Call(a) => Sequence::out_of_words(n, a),
+            Body::Return(_) => false,
+            Body::Sync => false,
+            Body::Modulator(_) => false,
+            Body::LoadCmp(_) => false,
+            Body::Prefetch(a) => Sequence::out_of_words(n, a),
+            Body::Noop => false,
         }
     }
 
-    fn target_placing(n: u64, a: WordAddress) -> Result<(), Misplaced>
-        ensures { told place_number result ≡ placing_of 0 n (Body.Goto a) }
-    {
-        let to = a.0;
-        if n <= to {
-            Err(Misplaced::OutOfWords)
-        } else {
-            Ok(())
-        }
-    }
-
-    // 20 or 21, with a waveform memory and n words.
+    // 20 or 21, with a waveform memory and n words. Whether there is one is asked for by itself: measured, the run and the check then go by
+    // the name of a word once, and not twice.
     pub fn placing(wave: QuadSamples, n: u64, body: Body) -> Result<(), Misplaced>
         ensures { told place_number result ≡ placing_of wave.0 n body }
     {
+        if !Sequence::is_misplaced(wave, n, body) {
+            return Ok(());
+        }
         match body {
-            Body::Waveform(f) => Sequence::waveform_placing(wave, f),
-            Body::Marker(_) => Ok(()),
-            Body::Wait => Ok(()),
-            Body::LoadRepeat(_) => Ok(()),
-            Body::Repeat(a) => Sequence::target_placing(n, a),
-            Body::Cmp(_) => Ok(()),
-            Body::Goto(a) => Sequence::target_placing(n, a),
-            Body::Call(a) => Sequence::target_placing(n, a),
-            Body::Return(_) => Ok(()),
-            Body::Sync => Ok(()),
-            Body::Modulator(_) => Ok(()),
-            Body::LoadCmp(_) => Ok(()),
-            Body::Prefetch(a) => Sequence::target_placing(n, a),
-            Body::Noop => Ok(()),
+            Body::Waveform(_) => Err(Misplaced::OutOfWave),
+            _ => Err(Misplaced::OutOfWords),
         }
     }
 }

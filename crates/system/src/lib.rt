@@ -5,13 +5,15 @@
 mod argument;
 mod file;
 mod input;
+mod pieces;
 mod text;
 
 ghost use Rattle.std.specs.Prelude.{◌≤◌, length, IfOk};
 
 pub use file::{create, open, remove, rename};
 pub use input::{Input, fill};
-use std::fmt::Display;
+use pieces::{Pieces, To};
+use std::fmt::{Display, Write};
 use std::io::{IsTerminal, Read, Result};
 use std::rt::{HostRuntime, Stdin};
 pub use text::Reason;
@@ -27,14 +29,20 @@ impl System {
         System { host }
     }
 
+    fn tell(self, to: To, text: impl Display + Drop, end: &str) {
+        let mut pieces = Pieces::of(self, to);
+        let _ = write!(pieces, "{text}{end}");
+        pieces.send();
+    }
+
     // Text to standard output, as `print!(system; ..)` formats it. What cannot be written is lost, and nothing follows from it.
     pub fn print(self, text: impl Display + Drop) {
-        let _ = self.host.print(text);
+        self.tell(To::Output, text, "");
     }
 
     // The same and the end of a line, for `println!`.
     pub fn println(self, text: impl Display + Drop) {
-        let _ = self.host.println(text);
+        self.tell(To::Output, text, "\n");
     }
 
     // Bytes that need not be text, as those of a name.
@@ -44,11 +52,11 @@ impl System {
 
     // What goes to standard error, likewise.
     pub fn eprint(self, text: impl Display + Drop) {
-        let _ = self.host.eprint(text);
+        self.tell(To::Error, text, "");
     }
 
     pub fn eprintln(self, text: impl Display + Drop) {
-        let _ = self.host.eprintln(text);
+        self.tell(To::Error, text, "\n");
     }
 
     pub fn eprint_bytes(self, bytes: &[u8]) {

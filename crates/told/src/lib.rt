@@ -2,11 +2,14 @@
 // The answer itself goes to standard output, and why there is none to standard error.
 #![tactic(auto)]
 
-mod complaint;
+ghost use Rattle.std.specs.Prelude.{◌≡◌};
+ghost use Rattle.told.specs.Status.{status_number};
+
+pub mod complaint;
 
 pub use complaint::{Said, complain_of_file};
 
-// How a program ends, from the best to the worst; the exit status is the place in this order.
+// How a program ends, from the best to the worst.
 #[derive(Clone, Copy, PartialEq, Eq)]
 pub enum Status {
     Accepted,
@@ -15,8 +18,14 @@ pub enum Status {
 }
 
 impl Status {
-    pub fn number(self) -> u64 {
-        self as u64
+    pub fn number(self) -> u64
+        ensures { result ≡ status_number self }
+    {
+        match self {
+            Status::Accepted => 0,
+            Status::Refused => 1,
+            Status::NoAnswer => 2,
+        }
     }
 }
 
@@ -25,8 +34,8 @@ impl Status {
 const SCRIPT_FILENO: i32 = 3;
 
 // The status comes after the last line of the answer: a program that does not come to its end tells none.
-pub fn ends(status: Status, number: u64) {
-    io::print_decimal(SCRIPT_FILENO, status.number());
+pub fn ends(status: u64, number: u64) {
+    io::print_decimal(SCRIPT_FILENO, status);
     io::write_all(SCRIPT_FILENO, b" ");
     io::print_decimal(SCRIPT_FILENO, number);
     io::write_all(SCRIPT_FILENO, b"\n");

@@ -19,7 +19,7 @@ pub enum AmountError {
 }
 
 // Numbers are typed in decimal.
-const BASE: u64 = 10;
+pub const BASE: u64 = 10;
 
 // One digit more, and of what is above the most only that it is.
 fn grown(value: u64, b: u8, most: u64) -> u64

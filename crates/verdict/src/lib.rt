@@ -129,7 +129,8 @@ fn word_refusal(words: &[u64], wave: QuadSamples, rules: Rules, a: usize) -> Ref
     Refusal::numbered(told(stands))
 }
 
-// The first word that is refused.
+// The first word that is refused. Compiled by itself, so that it takes no register from the walk: measured.
+#[inline(never)]
 fn judge_words(words: &[u64], wave: QuadSamples, rules: Rules) -> Verdict
     ensures { WordsAre rules wave.0 words.now result }
 {

@@ -1,59 +1,10 @@
--- Each arm is the placing of its name.
-use Rattle.sequence.specs.Placing.{placing_of}
+-- What is misplaced has the number of its name.
+use mathlib.Core.Path.{sym, ◌∙◌}
+use Rattle.sequence.proofs.Laws.{wave_number, word_number}
 use Rattle.sequence.proofs.Sequence.placing.Goals as goal
 
 pub returns-in-Waveform : goal.returns-in-Waveform
-unfolding placing_of
-returns-in-Waveform c = rw c.in-Waveform.is c.waveform_placing.ensures
+returns-in-Waveform c = wave_number c.args.wave.0 c.args.n c.in-Waveform.field-0 c.in-Waveform.is (sym c.is_misplaced.ensures ∙ c.if-not-is_misplaced.false)
 
-pub returns-in-Marker : goal.returns-in-Marker
-unfolding placing_of
-returns-in-Marker c = rw c.in-Marker.is
-
-pub returns-in-Wait : goal.returns-in-Wait
-unfolding placing_of
-returns-in-Wait c = rw c.in-Wait.is
-
-pub returns-in-LoadRepeat : goal.returns-in-LoadRepeat
-unfolding placing_of
-returns-in-LoadRepeat c = rw c.in-LoadRepeat.is
-
-pub returns-in-Repeat : goal.returns-in-Repeat
-unfolding placing_of
-returns-in-Repeat c = rw c.in-Repeat.is c.target_placing.ensures
-
-pub returns-in-Cmp : goal.returns-in-Cmp
-unfolding placing_of
-returns-in-Cmp c = rw c.in-Cmp.is
-
-pub returns-in-Goto : goal.returns-in-Goto
-unfolding placing_of
-returns-in-Goto c = rw c.in-Goto.is c.target_placing-in-Goto.ensures
-
-pub returns-in-Call : goal.returns-in-Call
-unfolding placing_of
-returns-in-Call c = rw c.in-Call.is c.target_placing-in-Call.ensures
-
-pub returns-in-Return : goal.returns-in-Return
-unfolding placing_of
-returns-in-Return c = rw c.in-Return.is
-
-pub returns-in-Sync : goal.returns-in-Sync
-unfolding placing_of
-returns-in-Sync c = rw c.in-Sync.is
-
-pub returns-in-Modulator : goal.returns-in-Modulator
-unfolding placing_of
-returns-in-Modulator c = rw c.in-Modulator.is
-
-pub returns-in-LoadCmp : goal.returns-in-LoadCmp
-unfolding placing_of
-returns-in-LoadCmp c = rw c.in-LoadCmp.is
-
-pub returns-in-Prefetch : goal.returns-in-Prefetch
-unfolding placing_of
-returns-in-Prefetch c = rw c.in-Prefetch.is c.target_placing-in-Prefetch.ensures
-
-pub returns-in-Noop : goal.returns-in-Noop
-unfolding placing_of
-returns-in-Noop c = rw c.in-Noop.is
+pub returns-in_default : goal.returns-in_default
+returns-in_default c = word_number c.args.wave.0 c.args.n c.args.body c.in_default.not-Waveform (sym c.is_misplaced.ensures ∙ c.if-not-is_misplaced.false)
