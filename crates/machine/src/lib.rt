@@ -6,6 +6,7 @@ ghost use Rattle.std.specs.Prelude.{◌≡◌, true, false, length, eqb};
 ghost use Rattle.instruction.specs.Bits.{pick};
 ghost use Rattle.instruction.specs.Table.{code_of};
 ghost use Rattle.instruction.specs.Form.{told};
+ghost use Rattle.reader.specs.Reading.{reading_of};
 ghost use Rattle.sequence.specs.Numbers.{place_number};
 ghost use Rattle.jumps.specs.State.{fixed_in};
 ghost use Rattle.jumps.specs.Lent.{state_in, Leaves};
@@ -14,9 +15,9 @@ ghost use Rattle.machine.specs.Step.{send_of, any_above, act_of, breaks_group, e
 ghost use Rattle.machine.specs.Kept.{Outward, Sends, Ready, At, goes_out, group_refused};
 
 use dispatch::dispatch;
-use instruction::{Body, Instruction, QuadSamples};
+use instruction::{Body, Instruction, QuadSamples, Refusal, Rules};
 use jumps::{Arrays, Core, Halt, Setting, Stepped, call, message, ret};
-use reader::{coarse_of, instruction_in, judged_by};
+use reader::{coarse_of, finer, instruction_in};
 use sequence::{Fault, Misplaced, Sequence};
 
 // The held words and this one go out together, or 43.
@@ -161,6 +162,17 @@ fn execute(
     act(words, messages, trace, arrays, s, i.write, body, setting)
 }
 
+// What a word reads as. Whether it is refused is asked before it is taken apart: measured, a step takes fewer instructions and jumps so.
+fn reads_as(word: u64, rules: Rules) -> Result<Instruction, Refusal>
+    ensures { result ≡ reading_of rules word }
+{
+    let coarse = coarse_of(word, rules);
+    if coarse != 0 {
+        return Err(finer(word, coarse));
+    }
+    Ok(instruction_in(word))
+}
+
 // One step. The budget is the run's.
 pub fn step(
     words: &[u64],
@@ -180,7 +192,7 @@ pub fn step(
         return Stepped::stop_for(Fault::PastTheEnd, s);
     }
     let word = words[at];
-    match judged_by(word, coarse_of(word, setting.rules), instruction_in(word)) {
+    match reads_as(word, setting.rules) {
         Ok(i) => execute(words, messages, trace, arrays, s, i, setting),
         Err(end) => Stepped { end, core: s },
     }

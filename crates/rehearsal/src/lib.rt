@@ -63,14 +63,12 @@ pub fn run_from(
         s.sent trace.old trace.new result arrays.new }
 {
     let mut at = s;
-    for _spent in 0..budget {
+    for _left in (0..budget).rev() {
         let r = step(words, messages, trace, arrays, at, setting);
-        let end = r.end.number;
-        if end != 0 {
+        if r.end.number != 0 {
             return r;
         }
-        let next = r.core;
-        at = next;
+        at = r.core;
     }
     Stepped::stop_for(Halt::BudgetSpent, at)
 }

@@ -2,9 +2,9 @@
 // A text is cut into lines at line feeds and a line into fields at tabs; what the fields mean is for its readers to say.
 #![tactic(auto)]
 
-ghost use Rattle.std.specs.Prelude.{◌≡◌, true, false, ◌≤◌, ◌<◌, ◌+◌, ◌-◌, length, drop, MatchOption};
+ghost use Rattle.std.specs.Prelude.{◌≡◌, true, false, ◌≤◌, ◌<◌, ◌+◌, ◌*◌, ◌-◌, length, drop, MatchOption};
 ghost use Rattle.text.specs.Cut.{place_of, same_text, starts_with, half, stride};
-ghost use Rattle.text.specs.Number.{is_digit, counted_to, counted_then, counted_at, Led};
+ghost use Rattle.text.specs.Number.{is_digit, numbers, counted_to, counted_then, counted_at, Led};
 
 // Why a text is refused: the number of what is wrong, and the line that has it, from 1; 0 where no line has.
 #[derive(Clone, Copy, PartialEq, Eq)]
@@ -117,6 +117,17 @@ impl Counted {
     }
 }
 
+// A number with one more digit; nothing where that is not below 2^64. Most are far below, which is asked first: measured, a digit takes one test less.
+fn grown(value: u64, digit: u64) -> Option<u64>
+    requires { digit < 10 }
+    ensures { MatchOption result (numbers ≤ value * 10 + digit) (λ v. (v ≡ value * 10 + digit) × (v < numbers)) }
+{
+    if value < u64::MAX / Counted::BASE {
+        return Some(value * Counted::BASE + digit);
+    }
+    value.checked_mul(Counted::BASE)?.checked_add(digit)
+}
+
 // Digit by digit behind the first, which is no "0".
 fn number_on(text: &[u8], from: usize, first: u64, x: u8) -> Option<Counted>
     requires { (Led x from first text.now) × (first ≡ 0 → ⊥) }
@@ -129,7 +140,7 @@ fn number_on(text: &[u8], from: usize, first: u64, x: u8) -> Option<Counted>
             return (b == x).then_some(Counted { value, end: i });
         }
         let d = u64::from(b - b'0');
-        value = value.checked_mul(Counted::BASE)?.checked_add(d)?;
+        value = grown(value, d)?;
     }
     Some(Counted {
         value,

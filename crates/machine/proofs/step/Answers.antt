@@ -1,7 +1,6 @@
 -- By the address, and by what the word reads as.
 use mathlib.Core.Path.{refl, sym, ◌∙◌}
 use lib.ListN.{length}
-use Rattle.reader.proofs.Coarse.{put_together}
 use Rattle.jumps.specs.State.{fixed_by}
 use Rattle.jumps.specs.Lent.{state_in}
 use Rattle.jumps.proofs.Laws.{stopped_done}
@@ -14,9 +13,9 @@ returns-then-words-at c = let a = c.args in
 
 pub returns-in-Err : goal.returns-in-Err
 returns-in-Err c = let a = c.args in
-    rw (step_refused (fixed_by a.words.now a.messages.now (length a.trace.now) a.setting) (state_in a.s a.arrays.now) _ c.if-words-at.false (sym (put_together _ _ c.judged_by.ensures c.coarse_of.ensures c.instruction_in.ensures) ∙ c.in-Err.is))
+    rw (step_refused (fixed_by a.words.now a.messages.now (length a.trace.now) a.setting) (state_in a.s a.arrays.now) _ c.if-words-at.false (sym c.reads_as.ensures ∙ c.in-Err.is))
     (quiet a.s.sent a.trace.now refl (refused_done refl))
 
 pub returns-in-Ok : goal.returns-in-Ok
 returns-in-Ok c = let a = c.args in
-    rw (step_accepted (fixed_by a.words.now a.messages.now (length a.trace.now) a.setting) (state_in a.s a.arrays.now) _ c.if-words-at.false (sym (put_together _ _ c.judged_by.ensures c.coarse_of.ensures c.instruction_in.ensures) ∙ c.in-Ok.is)) c.execute.ensures
+    rw (step_accepted (fixed_by a.words.now a.messages.now (length a.trace.now) a.setting) (state_in a.s a.arrays.now) _ c.if-words-at.false (sym c.reads_as.ensures ∙ c.in-Ok.is)) c.execute.ensures
