@@ -55,7 +55,7 @@ impl Numbered for Misplaced {
 
     ghost told_apart = { place_told_apart };
 
-    // A call, made once in a run, where it ends: measured, a step takes fewer instructions and jumps for it.
+    // A call of its own, made where the steps end: measured, each step takes fewer instructions and jumps for it.
     #[cold]
     #[inline(never)]
     fn number(self) -> u64 {
@@ -87,7 +87,7 @@ impl Numbered for Fault {
 
     ghost told_apart = { fault_told_apart };
 
-    // A call, made once in a run, where it ends: measured, a step takes fewer instructions and jumps for it.
+    // A call of its own, made where the steps end: measured, each step takes fewer instructions and jumps for it.
     #[cold]
     #[inline(never)]
     fn number(self) -> u64 {
