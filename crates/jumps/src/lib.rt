@@ -104,7 +104,7 @@ impl Numbered for Halt {
 
     ghost told_apart = { halt_told_apart };
 
-    // A call of its own, made where the steps end: measured, each step takes fewer instructions and jumps for it.
+    // A call of its own, made where the steps end: measured, each step is quicker for it.
     #[cold]
     #[inline(never)]
     fn number(self) -> u64 {

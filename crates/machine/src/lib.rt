@@ -162,7 +162,7 @@ fn execute(
     act(words, messages, trace, arrays, s, i.write, body, setting)
 }
 
-// What a word reads as. Whether it is refused is asked before it is taken apart: measured, a step takes fewer instructions and jumps so.
+// What a word reads as. Whether it is refused is asked before it is taken apart: measured, a step takes fewer instructions so.
 fn reads_as(word: u64, rules: Rules) -> Result<Instruction, Refusal>
     ensures { result ≡ reading_of rules word }
 {

@@ -55,7 +55,7 @@ impl Numbered for Misplaced {
 
     ghost told_apart = { place_told_apart };
 
-    // A call of its own, made where the steps end: measured, each step takes fewer instructions and jumps for it.
+    // A call of its own, made where the steps end: measured, each step is quicker for it.
     #[cold]
     #[inline(never)]
     fn number(self) -> u64 {
@@ -87,7 +87,7 @@ impl Numbered for Fault {
 
     ghost told_apart = { fault_told_apart };
 
-    // A call of its own, made where the steps end: measured, each step takes fewer instructions and jumps for it.
+    // A call of its own, made where the steps end: measured, each step is quicker for it.
     #[cold]
     #[inline(never)]
     fn number(self) -> u64 {
